@@ -30,10 +30,8 @@ pub fn outcome_text(alloc: Global, outcome: &CallOutcome) -> Result<String, Allo
 fn push_state(text: &mut String, value: i64, halted: bool, units: u128) -> Result<(), AllocError>
     ensures { OnOk result (Gains text.old text.new (state_lines value halted units)) }
 {
-    writeln!(text, "value {value}")?;
     let active = active_digit(halted);
-    writeln!(text, "active {active}")?;
-    writeln!(text, "units {units}")
+    writeln!(text, "value {value}\nactive {active}\nunits {units}")
 }
 
 fn active_digit(halted: bool) -> u8

@@ -5,12 +5,10 @@ ghost use Rattle.checkpoint.specs.Checkpoint.{seal_of};
 ghost use Rattle.checkpoint.specs.Files.{IsOfCheckpoint, IsOfCheckpointAt, IsSealedAs};
 
 use crate::device::Device;
-use crate::listing::supersteps_in;
+use crate::folder::Folder;
 use crate::{CheckpointFault, Keep, KeepFault, read};
 use std::alloc::{AllocError, Global};
-use std::fs::File;
-use std::rt::Files;
-use std::{fs, io};
+use std::io;
 
 /// A Keep in a directory. The last save, of the state before superstep `S`, is the file `ckpt-S.bin`. The file of the
 /// save before it is removed.
@@ -65,16 +63,12 @@ impl FileKeep {
     /// Finds what an earlier run has left in this directory, which has to be there: the Keep counts the newest checkpoint that
     /// reads well as saved, and nothing where there is none. A file `ckpt-S.bin` that does not read, or is of another superstep
     /// than S, is passed over. It fails where the directory cannot be listed, or memory runs out.
-    pub fn find<R: Files + AllocGlobal>(
-        rt: &R,
-        alloc: Global,
-        directory: &str,
-    ) -> io::Result<FileKeep>
+    pub fn find<R: Folder>(rt: &R, alloc: Global, directory: &str) -> io::Result<FileKeep>
         // What is counted as saved was read as a checkpoint of that superstep.
         ensures found { IfOk result HasCheckpoint }
         ensures failures { IfOk result (λ keep. failures_of keep ≡ 0) }
     {
-        let supersteps = supersteps_in(rt, alloc, directory)?;
+        let supersteps = rt.supersteps_in(alloc, directory)?;
         let directory = String::from_str(alloc, directory)?;
         let saved = newest(rt, alloc, directory.as_str(), supersteps.as_slice())?;
         Ok(FileKeep {
@@ -97,23 +91,23 @@ impl FileKeep {
 
     /// Renames each file `ckpt-S.bin` of the directory to `ckpt-S.old`, so that no later run takes it for a checkpoint of its own
     /// job. Answers how many there were.
-    pub fn set_aside<R: Files + AllocGlobal>(&self, rt: &R) -> io::Result<usize> {
-        let supersteps = supersteps_in(rt, self.alloc, self.directory.as_str())?;
+    pub fn set_aside<R: Folder>(&self, rt: &R) -> io::Result<usize> {
+        let supersteps = rt.supersteps_in(self.alloc, self.directory.as_str())?;
         for superstep in &supersteps {
             let whole = self.path(*superstep, "bin")?;
             let aside = self.path(*superstep, "old")?;
-            fs::rename(rt, whole.as_str(), aside.as_str())?;
+            rt.rename(whole.as_str(), aside.as_str())?;
         }
         Ok(supersteps.len())
     }
 
     /// Creates a file in the directory and removes it. It fails if the directory does not exist or no file can be
     /// created in it.
-    pub fn try_directory<R: Files>(&self, rt: &R) -> io::Result<()> {
-        fs::metadata(rt, self.directory.as_str())?;
+    pub fn try_directory<R: Folder>(&self, rt: &R) -> io::Result<()> {
+        rt.is_file(self.directory.as_str())?;
         let path = format!(in self.alloc; "{}/ckpt.part", self.directory)?;
-        File::create(rt, path.as_str())?;
-        let _ = fs::remove_file(rt, path.as_str());
+        rt.make_empty(path.as_str())?;
+        let _ = rt.remove_file(path.as_str());
         Ok(())
     }
 
@@ -181,7 +175,7 @@ fn path_in(
 }
 
 // What is remembered of the first of these supersteps whose file has its checkpoint.
-fn newest<R: Files + AllocGlobal>(
+fn newest<R: Folder>(
     rt: &R,
     alloc: Global,
     directory: &str,
@@ -199,7 +193,7 @@ fn newest<R: Files + AllocGlobal>(
 }
 
 // What is remembered of the checkpoint of a superstep, where its file has one.
-fn saved_in<R: Files + AllocGlobal>(
+fn saved_in<R: Folder>(
     rt: &R,
     alloc: Global,
     directory: &str,
@@ -208,7 +202,7 @@ fn saved_in<R: Files + AllocGlobal>(
     ensures { IfOk result (λ found. IfSome found IsOfCheckpoint) }
 {
     let path = path_in(alloc, directory, superstep, "bin")?;
-    match fs::read(rt, path.as_str()) {
+    match rt.read_bytes(path.as_str()) {
         Ok(bytes) => Ok(saved_of(alloc, superstep, &bytes)?),
         Err(error) if error.kind() == io::ErrorKind::OutOfMemory => Err(error),
         Err(_) => Ok(None),

@@ -6,6 +6,7 @@ mod device;
 mod digest;
 mod fault;
 mod files;
+mod folder;
 mod job_id;
 mod keep;
 mod laws;
@@ -21,6 +22,7 @@ mod writing;
 pub use device::Device;
 pub use fault::CheckpointFault;
 pub use files::FileKeep;
+pub use folder::Folder;
 pub use job_id::{JobId, digest_of};
 pub use keep::{Keep, KeepFault};
 pub use laws::{

@@ -8,9 +8,9 @@ use crate::{
 use anyhow::Result;
 use bounded_profile::ProfileFault;
 use checkpoint::Device;
-use conformance_cases::{CaseFiles, show_texts};
+use conformance_cases::{Answers, CaseFiles, Line, is_case, named, show_texts, spelled};
 use cost::CostFault;
-use std::alloc::{AllocError, Global};
+use std::alloc::Global;
 use std::thread::Threads;
 use validate::ValidFault;
 use wasm_ast::Module;
@@ -73,27 +73,66 @@ fn show_file(
     file: &'static str,
 ) -> Result<()> {
     match file {
-        "wasm_ast/copies.txt" => copies::show(rt),
         "wasm_decode" => binary::show(rt),
         "interp" => calls::show(rt),
-        "interp/alike.txt" => calls::alike::show(rt),
-        "interp/generated.txt" => calls::generated::show(rt),
-        "graph/parts.txt" => graphs::parts::show(rt),
-        "inbox/inboxes-by-part.txt" => inboxes::by_part::show(rt),
-        "superstep/jobs.txt" => jobs::show(rt),
-        "checkpoint/keeps.txt" => saves::show(rt),
-        _ => show_texts(rt, file, |alloc, text| answer(alloc, file, text)),
+        "inbox/inboxes-by-part.txt" | "superstep/jobs.txt" => show_in_threads(rt, file),
+        _ => show_texts(rt, file, &FileAnswers { rt, file }),
     }
 }
 
-fn answer(alloc: Global, file: &str, text: &str) -> Result<String, AllocError> {
-    let mut line = String::new(alloc);
-    tell(alloc, file, text, &mut line)?;
-    Ok(line)
+// Prints a line for each case of a file whose answers are made in threads.
+fn show_in_threads(
+    rt: &(impl CaseFiles + Print + AllocGlobal + Threads + Sync),
+    file: &'static str,
+) -> Result<()> {
+    let text = rt.text_of(file)?;
+    for line in text.lines() {
+        if is_case(line) {
+            show_case_in_threads(rt, file, line)?;
+        }
+    }
+    Ok(())
 }
 
-// Writes the answer to a case of a file.
-fn tell(alloc: Global, file: &str, text: &str, line: &mut String) -> Result<(), AllocError> {
+fn show_case_in_threads(
+    rt: &(impl CaseFiles + Print + AllocGlobal + Threads + Sync),
+    file: &'static str,
+    line: &str,
+) -> Result<()> {
+    let (name, case) = named(line);
+    let case = spelled(rt.alloc(), case)?;
+    let mut answer = Line::new(rt.alloc());
+    match file {
+        "superstep/jobs.txt" => jobs::answer(rt, case.as_str(), &mut answer),
+        _ => inboxes::by_part::answer(rt, rt.alloc(), case.as_str(), &mut answer),
+    }
+    println!(rt; "{name}: {}", answer.finish()?)?;
+    Ok(())
+}
+
+// The answers to the cases of a file.
+#[derive(Clone, Copy)]
+struct FileAnswers<'a, R> {
+    rt: &'a R,
+    file: &'static str,
+}
+
+impl<R: CaseFiles + Device + AllocGlobal> Answers for FileAnswers<'_, R> {
+    fn tell(&self, case: &str, line: &mut Line) {
+        let (rt, alloc) = (self.rt, self.rt.alloc());
+        match self.file {
+            "wasm_ast/copies.txt" => copies::answer(rt, case, line),
+            "interp/alike.txt" => calls::alike::answer(rt, case, line),
+            "interp/generated.txt" => calls::generated::answer(rt, case, line),
+            "graph/parts.txt" => graphs::parts::answer(rt, case, line),
+            "checkpoint/keeps.txt" => saves::answer(rt, case, line),
+            file => answer(alloc, file, case, line),
+        }
+    }
+}
+
+// Writes the answer to a case that needs no other file.
+fn answer(alloc: Global, file: &str, text: &str, line: &mut Line) {
     match file {
         "wasm_ast/numeric.txt" => numeric::answer(alloc, text, line),
         "wasm_ast/widths.txt" => widths::answer(alloc, text, line),
@@ -109,17 +148,12 @@ fn tell(alloc: Global, file: &str, text: &str, line: &mut String) -> Result<(), 
         "inbox/inboxes.txt" => inboxes::answer(alloc, text, line),
         "sources/inputs.txt" => inputs::answer(alloc, text, line),
         "checkpoint/checkpoints.txt" => checkpoints::answer(alloc, text, line),
-        _ => tell_of_module(alloc, file, text, line),
+        _ => answer_of_module(alloc, file, text, line),
     }
 }
 
 // Writes the answer to a case of a file about modules, or a fault that no module has.
-fn tell_of_module(
-    alloc: Global,
-    file: &str,
-    text: &str,
-    line: &mut String,
-) -> Result<(), AllocError> {
+fn answer_of_module(alloc: Global, file: &str, text: &str, line: &mut Line) {
     match file {
         "validate/out-of-memory.txt" => {
             validation::tell_fault(alloc, ValidFault::OutOfMemory, line)
@@ -127,21 +161,16 @@ fn tell_of_module(
         "bounded_profile/out-of-memory.txt" => {
             profile::tell_fault(alloc, ProfileFault::OutOfMemory, line)
         }
-        "cost/out-of-memory.txt" => write!(line, "{}", CostFault::OutOfMemory),
+        "cost/out-of-memory.txt" => line.show(&CostFault::OutOfMemory),
         _ if file.starts_with("bounded_profile/") => profile::answer(alloc, file, text, line),
         _ => match module_of(alloc, text) {
             Ok(module) => tell_module(alloc, file, &module, line),
-            Err(fault) => write!(line, "{fault}"),
+            Err(fault) => line.show(&fault),
         },
     }
 }
 
-fn tell_module(
-    alloc: Global,
-    file: &str,
-    module: &Module,
-    line: &mut String,
-) -> Result<(), AllocError> {
+fn tell_module(alloc: Global, file: &str, module: &Module, line: &mut Line) {
     match file {
         "wasm_ast/limits.txt" => limits::tell_sizes(module, line),
         "wat_asm/texts.txt" => texts::tell_on_a_line(alloc, module, line),

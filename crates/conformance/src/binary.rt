@@ -15,7 +15,7 @@ pub mod sweep;
 
 use crate::modules::{decoded, module_of, printed, spelling};
 use anyhow::Result;
-use conformance_cases::{CaseFiles, is_case, named, spelled};
+use conformance_cases::{CaseFiles, Line, halves, is_case, named, spelled};
 use damage::tell_damaged;
 use sized::sized_bytes;
 use sources::CommandFault;
@@ -43,8 +43,8 @@ struct Frame<'a> {
 
 impl<'a> Frame<'a> {
     fn new(line: &'a str) -> Frame<'a> {
-        let (question, frame) = line.split_once(' ').unwrap_or((line, ""));
-        let (front, back) = frame.split_once("..").unwrap_or((frame, ""));
+        let (question, frame) = halves(line, " ");
+        let (front, back) = halves(frame, "..");
         Frame {
             question,
             front,
@@ -53,12 +53,21 @@ impl<'a> Frame<'a> {
     }
 
     fn filled(&self, alloc: Global, text: &str) -> Result<String, AllocError> {
-        format!(in alloc; "{}{text}{}", self.front, self.back)
+        let mut line = Line::new(alloc);
+        line.put(self.front);
+        line.put(text);
+        line.put(self.back);
+        line.finish()
+    }
+
+    fn spelled(&self, alloc: Global, text: &str) -> Result<String, AllocError> {
+        let line = self.filled(alloc, text)?;
+        spelled(alloc, line.as_str())
     }
 
     fn bytes(&self, alloc: Global, text: &str) -> Result<Vec<u8>, AllocError> {
-        let line = self.filled(alloc, text)?;
-        sized_bytes(alloc, line.as_str())
+        let text = self.spelled(alloc, text)?;
+        sized_bytes(alloc, text.as_str())
     }
 }
 
@@ -79,7 +88,7 @@ fn show_file(rt: &(impl CaseFiles + Print + AllocGlobal), file: &str) -> Result<
 
 // Shows a question with its frame, and a line for each case after it.
 fn show_part(rt: &(impl Print + AllocGlobal), part: &str) -> Result<()> {
-    let (question, cases) = part.split_once('\n').unwrap_or((part, ""));
+    let (question, cases) = halves(part, "\n");
     let frame = Frame::new(question);
     for case in cases.lines().filter(|line| is_case(line)) {
         show_case(rt, frame, case)?;
@@ -95,12 +104,12 @@ fn show_case(rt: &(impl Print + AllocGlobal), frame: Frame, line: &str) -> Resul
 }
 
 fn answer(alloc: Global, frame: Frame, text: &str) -> Result<String, AllocError> {
-    let mut line = String::new(alloc);
-    tell(alloc, frame, text, &mut line)?;
-    Ok(line)
+    let mut line = Line::new(alloc);
+    tell(alloc, frame, text, &mut line);
+    line.finish()
 }
 
-fn tell(alloc: Global, frame: Frame, text: &str, line: &mut String) -> Result<(), AllocError> {
+fn tell(alloc: Global, frame: Frame, text: &str, line: &mut Line) {
     match frame.question {
         "alike" => tell_alike(alloc, frame, text, line),
         "length" => tell_length(alloc, frame, text, line),
@@ -108,13 +117,10 @@ fn tell(alloc: Global, frame: Frame, text: &str, line: &mut String) -> Result<()
     }
 }
 
-fn tell_for_bytes(
-    alloc: Global,
-    frame: Frame,
-    text: &str,
-    line: &mut String,
-) -> Result<(), AllocError> {
-    let bytes = frame.bytes(alloc, text)?;
+fn tell_for_bytes(alloc: Global, frame: Frame, text: &str, line: &mut Line) {
+    let Ok(bytes) = frame.bytes(alloc, text) else {
+        return line.cut();
+    };
     match frame.question {
         "decode" => tell_decoded(alloc, bytes.as_slice(), line),
         "encode" => tell_encoded(alloc, bytes.as_slice(), line),
@@ -123,28 +129,30 @@ fn tell_for_bytes(
 }
 
 // Writes the module that the bytes spell.
-fn tell_decoded(alloc: Global, bytes: &[u8], line: &mut String) -> Result<(), AllocError> {
+fn tell_decoded(alloc: Global, bytes: &[u8], line: &mut Line) {
     match decoded(alloc, bytes) {
         Ok(module) => tell_module(alloc, &module, line),
-        Err(fault) => write!(line, "{fault}"),
+        Err(fault) => line.show(&fault),
     }
 }
 
-fn tell_module(alloc: Global, module: &Module, line: &mut String) -> Result<(), AllocError> {
-    let text = printed(alloc, module)?;
-    push_words(alloc, text.as_str(), line)
+fn tell_module(alloc: Global, module: &Module, line: &mut Line) {
+    match printed(alloc, module) {
+        Ok(text) => push_words(alloc, text.as_str(), line),
+        Err(_) => line.cut(),
+    }
 }
 
 // Joins the words of a text by single blanks.
-fn push_words(alloc: Global, text: &str, line: &mut String) -> Result<(), AllocError> {
+fn push_words(alloc: Global, text: &str, line: &mut Line) {
     let mut run = Run {
         word: String::new(alloc),
         count: 0,
     };
     for word in text.split_ascii_whitespace() {
-        run.take(word, line)?;
+        run.take(word, line);
     }
-    run.write(line)
+    run.write(line);
 }
 
 // Equal words in a row.
@@ -156,142 +164,119 @@ struct Run {
 
 impl Run {
     // Counts the word if it is the same, or writes the row and begins one of this word.
-    fn take(&mut self, word: &str, line: &mut String) -> Result<(), AllocError> {
+    fn take(&mut self, word: &str, line: &mut Line) {
         if word != self.word.as_str() {
-            self.write(line)?;
-            self.word.clear();
-            self.word.push_str(word)?;
-            self.count = 0;
+            self.write(line);
+            self.begin(word, line);
         }
         self.count = self.count.saturating_add(1);
-        Ok(())
+    }
+
+    fn begin(&mut self, word: &str, line: &mut Line) {
+        self.count = 0;
+        self.word.clear();
+        if self.word.push_str(word).is_err() {
+            line.cut();
+        }
     }
 
     // Appends the words, as `⟦N|WORD⟧` if they are many.
-    fn write(&self, line: &mut String) -> Result<(), AllocError> {
+    fn write(&self, line: &mut Line) {
         if self.count >= MANY {
-            push_blank(line)?;
-            return write!(line, "⟦{}|{}⟧", self.count, self.word);
+            line.gap(" ");
+            line.add("⟦", &self.count);
+            line.add("|", &self.word);
+            return line.put("⟧");
         }
         for _ in 0..self.count {
-            push_blank(line)?;
-            line.push_str(self.word.as_str())?;
+            line.gap(" ");
+            line.put(self.word.as_str());
         }
-        Ok(())
-    }
-}
-
-// Appends a blank if the line is not empty.
-fn push_blank(line: &mut String) -> Result<(), AllocError> {
-    if line.is_empty() {
-        Ok(())
-    } else {
-        line.push(' ')
     }
 }
 
 // Writes the answer that each of the bytes has in the frame, or the first byte with another one.
-fn tell_alike(
-    alloc: Global,
-    frame: Frame,
-    text: &str,
-    line: &mut String,
-) -> Result<(), AllocError> {
-    let (first, others) = text.split_once(' ').unwrap_or((text, ""));
-    tell_fault(alloc, frame, first, line)?;
-    match first_otherwise(alloc, frame, others, line.as_str())? {
-        Some(byte) => {
-            line.clear();
-            write!(line, "otherwise at {byte}")
-        }
-        None => Ok(()),
-    }
-}
-
-fn first_otherwise<'a>(
-    alloc: Global,
-    frame: Frame,
-    others: &'a str,
-    told: &str,
-) -> Result<Option<&'a str>, AllocError> {
+fn tell_alike(alloc: Global, frame: Frame, text: &str, line: &mut Line) {
+    let (first, others) = halves(text, " ");
+    let Ok(told) = fault_told(alloc, frame, first) else {
+        return line.cut();
+    };
     for byte in others.split_ascii_whitespace() {
-        if is_otherwise(alloc, frame, byte, told)? {
-            return Ok(Some(byte));
+        if !has_answer(alloc, frame, byte, told.as_str()) {
+            return line.add("otherwise at ", &byte);
         }
     }
-    Ok(None)
+    line.put(told.as_str());
 }
 
-fn is_otherwise(alloc: Global, frame: Frame, byte: &str, told: &str) -> Result<bool, AllocError> {
-    let mut other = String::new(alloc);
-    tell_fault(alloc, frame, byte, &mut other)?;
-    Ok(other.as_str() != told)
+// Returns whether this is the answer to the byte in the frame.
+fn has_answer(alloc: Global, frame: Frame, byte: &str, told: &str) -> bool {
+    match fault_told(alloc, frame, byte) {
+        Ok(other) => other.as_str() == told,
+        Err(_) => false,
+    }
 }
 
-fn tell_fault(
-    alloc: Global,
-    frame: Frame,
-    text: &str,
-    line: &mut String,
-) -> Result<(), AllocError> {
-    let bytes = frame.bytes(alloc, text)?;
+fn fault_told(alloc: Global, frame: Frame, text: &str) -> Result<String, AllocError> {
+    let mut line = Line::new(alloc);
+    tell_fault(alloc, frame, text, &mut line);
+    line.finish()
+}
+
+fn tell_fault(alloc: Global, frame: Frame, text: &str, line: &mut Line) {
+    let Ok(bytes) = frame.bytes(alloc, text) else {
+        return line.cut();
+    };
     match decoded(alloc, bytes.as_slice()) {
-        Ok(_) => line.push_str("a module"),
-        Err(fault) => write!(line, "{fault}"),
+        Ok(_) => line.put("a module"),
+        Err(fault) => line.show(&fault),
     }
 }
 
 // Encodes the module that the bytes spell.
-fn tell_encoded(alloc: Global, bytes: &[u8], line: &mut String) -> Result<(), AllocError> {
+fn tell_encoded(alloc: Global, bytes: &[u8], line: &mut Line) {
     match decoded(alloc, bytes) {
         Ok(module) => tell_spelling(alloc, &module, bytes, line),
-        Err(fault) => write!(line, "{fault}"),
+        Err(fault) => line.show(&fault),
     }
 }
 
-fn tell_spelling(
-    alloc: Global,
-    module: &Module,
-    bytes: &[u8],
-    line: &mut String,
-) -> Result<(), AllocError> {
+fn tell_spelling(alloc: Global, module: &Module, bytes: &[u8], line: &mut Line) {
     match spelling(alloc, module) {
-        Ok(again) if again.as_slice() == bytes => line.push_str("the same bytes"),
+        Ok(again) if again.as_slice() == bytes => line.put("the same bytes"),
         Ok(again) => push_hexadecimal(again.as_slice(), line),
-        Err(fault) => write!(line, "{}", CommandFault::from(fault)),
+        Err(fault) => line.show(&CommandFault::from(fault)),
     }
 }
 
-fn push_hexadecimal(bytes: &[u8], line: &mut String) -> Result<(), AllocError> {
+fn push_hexadecimal(bytes: &[u8], line: &mut Line) {
     for byte in bytes {
-        push_blank(line)?;
-        write!(line, "{byte:02X}")?;
+        line.gap(" ");
+        line.byte(*byte);
     }
-    Ok(())
 }
 
 // Writes the length of the shortest spelling of a text's module.
-fn tell_length(
-    alloc: Global,
-    frame: Frame,
-    text: &str,
-    line: &mut String,
-) -> Result<(), AllocError> {
-    let filled = frame.filled(alloc, text)?;
-    tell_length_of(alloc, filled.as_str(), line)
-}
-
-fn tell_length_of(alloc: Global, spelling: &str, line: &mut String) -> Result<(), AllocError> {
-    let text = spelled(alloc, spelling)?;
-    match module_of(alloc, text.as_str()) {
-        Ok(module) => tell_module_length(alloc, &module, line),
-        Err(fault) => write!(line, "{fault}"),
+fn tell_length(alloc: Global, frame: Frame, text: &str, line: &mut Line) {
+    match frame.spelled(alloc, text) {
+        Ok(text) => tell_length_of(alloc, text.as_str(), line),
+        Err(_) => line.cut(),
     }
 }
 
-fn tell_module_length(alloc: Global, module: &Module, line: &mut String) -> Result<(), AllocError> {
+fn tell_length_of(alloc: Global, text: &str, line: &mut Line) {
+    match module_of(alloc, text) {
+        Ok(module) => tell_module_length(alloc, &module, line),
+        Err(fault) => line.show(&fault),
+    }
+}
+
+fn tell_module_length(alloc: Global, module: &Module, line: &mut Line) {
     match spelling(alloc, module) {
-        Ok(bytes) => write!(line, "{} bytes", bytes.len()),
-        Err(fault) => write!(line, "{}", CommandFault::from(fault)),
+        Ok(bytes) => {
+            line.show(&bytes.len());
+            line.put(" bytes");
+        }
+        Err(fault) => line.show(&CommandFault::from(fault)),
     }
 }

@@ -12,7 +12,7 @@ pub mod generated;
 use crate::modules::valid_of;
 use anyhow::Result;
 use call_lines::Input;
-use conformance_cases::{CaseFiles, show_texts};
+use conformance_cases::{Answers, CaseFiles, Line, halves, show_texts};
 use forms::tell_both;
 use sources::CommandFault;
 use std::alloc::{AllocError, Global};
@@ -64,9 +64,33 @@ impl<'a> Case<'a> {
     }
 
     fn in_frame(&self, alloc: Global, frame: &str) -> Result<String, AllocError> {
-        let (front, others) = frame.split_once('□').unwrap_or((frame, ""));
-        let (middle, back) = others.split_once('□').unwrap_or((others, ""));
-        format!(in alloc; "{front}{}{middle}{}{back}", self.body, self.fields)
+        let (front, others) = halves(frame, "□");
+        let (middle, back) = halves(others, "□");
+        let mut text = Line::new(alloc);
+        text.put(front);
+        text.put(self.body);
+        text.put(middle);
+        text.put(self.fields);
+        text.put(back);
+        text.finish()
+    }
+}
+
+// The answers to calls in a frame, for this vertex.
+#[derive(Clone, Copy)]
+struct Calls<'a> {
+    alloc: Global,
+    frame: &'a str,
+    vertex: &'a str,
+}
+
+impl Answers for Calls<'_> {
+    fn tell(&self, case: &str, line: &mut Line) {
+        let case = Case::new(case, self.vertex);
+        match case.in_frame(self.alloc, self.frame) {
+            Ok(text) => tell(self.alloc, text.as_str(), case, line),
+            Err(_) => line.cut(),
+        }
     }
 }
 
@@ -90,36 +114,28 @@ fn show_file(
     frame: &str,
     vertex: &str,
 ) -> Result<()> {
+    let alloc = rt.alloc();
     show_texts(
         rt,
         file,
-        |alloc, text| answer(alloc, frame, Case::new(text, vertex)),
+        &Calls {
+            alloc,
+            frame,
+            vertex,
+        },
     )
 }
 
-fn answer(alloc: Global, frame: &str, case: Case) -> Result<String, AllocError> {
-    let mut line = String::new(alloc);
-    tell(alloc, frame, case, &mut line)?;
-    Ok(line)
-}
-
-fn tell(alloc: Global, frame: &str, case: Case, line: &mut String) -> Result<(), AllocError> {
-    let text = case.in_frame(alloc, frame)?;
+fn tell(alloc: Global, text: &str, case: Case, line: &mut Line) {
     match Input::read(alloc, case.input) {
-        Ok(input) => tell_call(alloc, text.as_str(), &input.call_input(), case.budget, line),
-        Err(fault) => write!(line, "{}", CommandFault::Input(fault)),
+        Ok(input) => tell_call(alloc, text, &input.call_input(), case.budget, line),
+        Err(fault) => line.show(&CommandFault::Input(fault)),
     }
 }
 
-fn tell_call(
-    alloc: Global,
-    text: &str,
-    input: &CallInput,
-    budget: u128,
-    line: &mut String,
-) -> Result<(), AllocError> {
+fn tell_call(alloc: Global, text: &str, input: &CallInput, budget: u128, line: &mut Line) {
     match valid_of(alloc, text) {
         Ok(valid) => tell_both(alloc, valid, input, budget, line),
-        Err(fault) => write!(line, "{fault}"),
+        Err(fault) => line.show(&fault),
     }
 }

@@ -3,12 +3,12 @@
 //! `NAME: changes HEX` counts the changes of one byte with which the bytes are read.
 
 use checkpoint::{read, write};
-use conformance_cases::bytes;
-use std::alloc::{AllocError, Global};
+use conformance_cases::{Line, bytes};
+use std::alloc::Global;
 use superstep::{State, VertexState};
 
 /// Writes the state that bytes hold, or how many of the fronts or changes of the bytes are read.
-pub fn answer(alloc: Global, case: &str, line: &mut String) -> Result<(), AllocError> {
+pub fn answer(alloc: Global, case: &str, line: &mut Line) {
     if let Some(hex) = case.strip_prefix("fronts ") {
         return tell_fronts(alloc, hex, line);
     }
@@ -18,17 +18,22 @@ pub fn answer(alloc: Global, case: &str, line: &mut String) -> Result<(), AllocE
     tell_state_or_fault(alloc, case, line)
 }
 
-fn tell_fronts(alloc: Global, hex: &str, line: &mut String) -> Result<(), AllocError> {
-    let bytes = bytes(alloc, hex)?;
-    let (read, all) = (fronts_read(alloc, bytes.as_slice()), bytes.len());
-    write!(line, "{read} of {all} are read")
+fn tell_fronts(alloc: Global, hex: &str, line: &mut Line) {
+    let Ok(bytes) = bytes(alloc, hex) else {
+        return line.cut();
+    };
+    line.show(&fronts_read(alloc, bytes.as_slice()));
+    line.add(" of ", &bytes.len());
+    line.put(" are read");
 }
 
-fn tell_changes(alloc: Global, hex: &str, line: &mut String) -> Result<(), AllocError> {
-    let mut bytes = bytes(alloc, hex)?;
-    let all = bytes.len().saturating_mul(255);
-    let read = changes_read(alloc, &mut bytes);
-    write!(line, "{read} of {all} are read")
+fn tell_changes(alloc: Global, hex: &str, line: &mut Line) {
+    let Ok(mut bytes) = bytes(alloc, hex) else {
+        return line.cut();
+    };
+    line.show(&changes_read(alloc, &mut bytes));
+    line.add(" of ", &bytes.len().saturating_mul(255));
+    line.put(" are read");
 }
 
 fn fronts_read(alloc: Global, bytes: &[u8]) -> u64 {
@@ -66,62 +71,54 @@ fn put(bytes: &mut Vec<u8>, place: usize, byte: u8) {
     }
 }
 
-fn tell_state_or_fault(alloc: Global, hex: &str, line: &mut String) -> Result<(), AllocError> {
-    let bytes = bytes(alloc, hex)?;
+fn tell_state_or_fault(alloc: Global, hex: &str, line: &mut Line) {
+    let Ok(bytes) = bytes(alloc, hex) else {
+        return line.cut();
+    };
     match read(alloc, bytes.as_slice()) {
         Ok(state) => tell_read(alloc, &state, bytes.as_slice(), line),
-        Err(fault) => write!(line, "{fault}"),
+        Err(fault) => line.show(&fault),
     }
 }
 
-fn tell_read(
-    alloc: Global,
-    state: &State,
-    bytes: &[u8],
-    line: &mut String,
-) -> Result<(), AllocError> {
-    tell_state(alloc, state, line)?;
-    tell_written(alloc, state, bytes, line)
+fn tell_read(alloc: Global, state: &State, bytes: &[u8], line: &mut Line) {
+    tell_state(alloc, state, line);
+    match write(alloc, state) {
+        Ok(written) => tell_written(written.as_slice(), bytes, line),
+        Err(_) => line.cut(),
+    }
 }
 
-fn tell_written(
-    alloc: Global,
-    state: &State,
-    bytes: &[u8],
-    line: &mut String,
-) -> Result<(), AllocError> {
-    let written = write(alloc, state)?;
-    let alike = if written.as_slice() == bytes {
-        " alike"
-    } else {
-        ""
-    };
-    write!(line, ", written {}{alike}", written.len())
+fn tell_written(written: &[u8], bytes: &[u8], line: &mut Line) {
+    line.add(", written ", &written.len());
+    if written == bytes {
+        line.put(" alike");
+    }
 }
 
 /// Writes a state, except for the values of its aggregators.
-pub fn tell_state(alloc: Global, state: &State, line: &mut String) -> Result<(), AllocError> {
-    let (superstep, since) = (state.superstep(), state.since());
-    let (units, dropped) = (state.units(), state.dropped());
-    write!(
-        line,
-        "superstep {superstep} since {since} units {units} dropped {dropped}"
-    )?;
-    tell_vertices(&state.in_order(alloc)?, line)
+pub fn tell_state(alloc: Global, state: &State, line: &mut Line) {
+    line.add("superstep ", &state.superstep());
+    line.add(" since ", &state.since());
+    line.add(" units ", &state.units());
+    line.add(" dropped ", &state.dropped());
+    match state.in_order(alloc) {
+        Ok(vertices) => tell_vertices(&vertices, line),
+        Err(_) => line.cut(),
+    }
 }
 
-fn tell_vertices(vertices: &[&VertexState], line: &mut String) -> Result<(), AllocError> {
+fn tell_vertices(vertices: &[&VertexState], line: &mut Line) {
     for vertex in vertices {
-        tell_vertex(vertex, line)?;
+        tell_vertex(vertex, line);
     }
-    Ok(())
 }
 
-fn tell_vertex(vertex: &VertexState, line: &mut String) -> Result<(), AllocError> {
-    let active = if vertex.active { "active" } else { "halted" };
-    write!(line, ", {} {} {active}", vertex.id, vertex.value)?;
+fn tell_vertex(vertex: &VertexState, line: &mut Line) {
+    line.add(", ", &vertex.id);
+    line.add(" ", &vertex.value);
+    line.put(if vertex.active { " active" } else { " halted" });
     for message in vertex.inbox.as_slice() {
-        write!(line, " {message}")?;
+        line.add(" ", message);
     }
-    Ok(())
 }

@@ -2,25 +2,26 @@
 //! OTHER replaces PART.
 
 use crate::modules::assembled;
-use anyhow::Result;
-use conformance_cases::{CaseFiles, show_texts};
+use conformance_cases::{CaseFiles, Line};
 use std::alloc::{AllocError, Global};
 use wasm_ast::Module;
 
-pub fn show(rt: &(impl CaseFiles + Print + AllocGlobal)) -> Result<()> {
-    let whole = rt.text_of("modules/whole.wat")?;
-    show_changes(rt, whole.as_str())
+/// Writes how the module compares with the copy that a case asks for.
+pub fn answer(rt: &(impl CaseFiles + AllocGlobal), case: &str, line: &mut Line) {
+    match rt.text_of("modules/whole.wat") {
+        Ok(whole) => tell(rt.alloc(), whole.as_str(), case, line),
+        Err(error) => line.show(&error),
+    }
 }
 
-fn show_changes(rt: &(impl CaseFiles + Print + AllocGlobal), whole: &str) -> Result<()> {
-    show_texts(
-        rt,
-        "wasm_ast/copies.txt",
-        |alloc, case| String::from_str(alloc, answer(alloc, whole, case)?),
-    )
+fn tell(alloc: Global, whole: &str, case: &str, line: &mut Line) {
+    match compared_after(alloc, whole, case) {
+        Ok(word) => line.put(word),
+        Err(_) => line.cut(),
+    }
 }
 
-fn answer(alloc: Global, whole: &str, case: &str) -> Result<&'static str, AllocError> {
+fn compared_after(alloc: Global, whole: &str, case: &str) -> Result<&'static str, AllocError> {
     let (part, other) = case.split_once(" | ").unwrap_or((case, case));
     let Some((before, after)) = whole.split_once(part) else {
         return Ok("no such part");

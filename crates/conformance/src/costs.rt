@@ -4,42 +4,42 @@
 ghost use Rattle.cost.specs.Ranks.{IsRanking};
 
 use crate::modules::valid_of;
+use conformance_cases::Line;
 use cost::{Ranks, inlined_size, ranks};
-use std::alloc::{AllocError, Global};
+use std::alloc::Global;
 use verified::Valid;
 use wasm_ast::{Module, imported_function_count};
 
 /// Writes the sizes and ranks of the functions of the module that a text spells.
-pub fn answer(alloc: Global, text: &str, line: &mut String) -> Result<(), AllocError> {
+pub fn answer(alloc: Global, text: &str, line: &mut Line) {
     match valid_of(alloc, text) {
         Ok(valid) => tell_costs(alloc, &valid, line),
-        Err(fault) => write!(line, "{fault}"),
+        Err(fault) => line.show(&fault),
     }
 }
 
-fn tell_costs(alloc: Global, valid: &Valid, line: &mut String) -> Result<(), AllocError> {
+fn tell_costs(alloc: Global, valid: &Valid, line: &mut Line) {
     match ranks(alloc, valid) {
         Ok(ranks) => tell(valid, &ranks, line),
-        Err(fault) => write!(line, "{fault}"),
+        Err(fault) => line.show(&fault),
     }
 }
 
-fn tell(valid: &Valid, ranks: &Ranks, line: &mut String) -> Result<(), AllocError>
+fn tell(valid: &Valid, ranks: &Ranks, line: &mut Line)
     requires { IsRanking valid.now ranks.now }
 {
     let count = function_count(valid.module());
-    line.push_str("sizes")?;
+    line.put("sizes");
     for function in 0..count {
         match inlined_size(valid, ranks, function) {
-            Some(size) => write!(line, " {size}")?,
-            None => line.push_str(" -")?,
+            Some(size) => line.add(" ", &size),
+            None => line.put(" -"),
         }
     }
-    line.push_str(" ranks")?;
+    line.put(" ranks");
     for function in 0..count {
-        write!(line, " {}", ranks.rank(function))?;
+        line.add(" ", &ranks.rank(function));
     }
-    Ok(())
 }
 
 fn function_count(module: &Module) -> u32 {

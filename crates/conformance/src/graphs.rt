@@ -6,25 +6,26 @@ pub mod parts;
 pub mod texts;
 pub mod values;
 
+use conformance_cases::Line;
 use graph::Vertex;
-use std::alloc::AllocError;
 
 /// Writes vertices: `ID VALUE`, and `TARGET:VALUE` for each edge, with `;` between vertices.
-pub fn tell_vertices(vertices: &[Vertex], line: &mut String) -> Result<(), AllocError> {
+pub fn tell_vertices(vertices: &[Vertex], line: &mut Line) {
     if vertices.is_empty() {
-        return line.push_str("no vertices");
+        line.put("no vertices");
     }
     for (place, vertex) in vertices.iter().enumerate() {
-        let gap = if place == 0 { "" } else { "; " };
-        write!(line, "{gap}{} {}", vertex.id, vertex.value)?;
-        tell_edges(&vertex.edges, line)?;
+        line.put(if place == 0 { "" } else { "; " });
+        line.show(&vertex.id);
+        line.add(" ", &vertex.value);
+        tell_edges(&vertex.edges, line);
     }
-    Ok(())
 }
 
-fn tell_edges(edges: &[(u64, i64)], line: &mut String) -> Result<(), AllocError> {
+/// Writes edges.
+pub fn tell_edges(edges: &[(u64, i64)], line: &mut Line) {
     for (target, value) in edges {
-        write!(line, " {target}:{value}")?;
+        line.add(" ", target);
+        line.add(":", value);
     }
-    Ok(())
 }

@@ -2,55 +2,63 @@
 //! import names.
 
 use crate::modules::assembled;
-use std::alloc::{AllocError, Global};
+use conformance_cases::Line;
+use std::alloc::Global;
 use verified::HostCall;
 use wasm_ast::{Import, ImportDescription, Module, ValType};
 
 /// Writes the parameters and results of a function, or the function that an import names.
-pub fn answer(alloc: Global, case: &str, line: &mut String) -> Result<(), AllocError> {
+pub fn answer(alloc: Global, case: &str, line: &mut Line) {
     if case.starts_with('(') {
-        return line.push_str(imported_name(alloc, case)?);
+        return tell_imported(alloc, case, line);
     }
     match HostCall::named("pregel", case) {
         Some(call) => tell_type(case, call, line),
-        None => line.push_str("none"),
+        None => line.put("none"),
     }
 }
 
 // Writes the parameters and results of a function, and its own name if that is another.
-fn tell_type(name: &str, call: HostCall, line: &mut String) -> Result<(), AllocError> {
+fn tell_type(name: &str, call: HostCall, line: &mut Line) {
     if call.name() != name {
-        line.push_str(call.name())?;
+        line.put(call.name());
     }
     let call_type = call.type_of();
-    tell_types(call_type.parameters, line)?;
-    line.push_str(" -> ")?;
-    tell_types(call_type.results, line)
+    tell_types(call_type.parameters, line);
+    line.put(" -> ");
+    tell_types(call_type.results, line);
 }
 
-fn tell_types(types: &[ValType], line: &mut String) -> Result<(), AllocError> {
+fn tell_types(types: &[ValType], line: &mut Line) {
     let mut gap = "[";
     for one in types {
-        line.push_str(gap)?;
-        line.push_str(word_of(*one))?;
+        line.put(gap);
+        line.put(word_of(*one));
         gap = " ";
     }
-    line.push_str(if types.is_empty() { "[]" } else { "]" })
+    line.put(if types.is_empty() { "[]" } else { "]" });
 }
 
-fn word_of(val_type: ValType) -> &'static str {
+/// Returns the name of a type.
+pub fn word_of(val_type: ValType) -> &'static str {
     match val_type {
         ValType::I32 => "i32",
         ValType::I64 => "i64",
     }
 }
 
-// Returns the name of the function that the import names.
-fn imported_name(alloc: Global, import: &str) -> Result<&'static str, AllocError> {
-    let text = format!(in alloc; "(module {import})")?;
-    match assembled(alloc, text.as_str()) {
-        Ok(module) => Ok(first_name(&module)),
-        Err(_) => Ok("no module"),
+// Writes the name of the function that the import names.
+fn tell_imported(alloc: Global, import: &str, line: &mut Line) {
+    match format!(in alloc; "(module {import})") {
+        Ok(text) => line.put(imported_name(alloc, text.as_str())),
+        Err(_) => line.cut(),
+    }
+}
+
+fn imported_name(alloc: Global, text: &str) -> &'static str {
+    match assembled(alloc, text) {
+        Ok(module) => first_name(&module),
+        Err(_) => "no module",
     }
 }
 

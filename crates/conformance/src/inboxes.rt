@@ -8,30 +8,26 @@ ghost use Rattle.std.specs.List.{IsDistinct, list_any};
 ghost use Rattle.std.specs.List.Sorted.{IsStrictlyIncreasing};
 ghost use Rattle.inbox.specs.Merging.{are_one};
 
+use conformance_cases::{Line, halves};
 use inbox::{Inbox, Letter, merge};
 use std::alloc::{AllocError, Global};
 
 /// Writes the inboxes of a case.
-pub fn answer(alloc: Global, case: &str, line: &mut String) -> Result<(), AllocError> {
-    let (ids, letters) = case.split_once(';').unwrap_or((case, ""));
+pub fn answer(alloc: Global, case: &str, line: &mut Line) {
+    let (ids, letters) = halves(case, ";");
     let mut unread = false;
-    let ids = ids_in(alloc, ids, &mut unread)?;
-    deliver(alloc, letters, ids.as_slice(), unread, line)
+    match ids_in(alloc, ids, &mut unread) {
+        Ok(ids) => deliver(alloc, letters, ids.as_slice(), unread, line),
+        Err(_) => line.cut(),
+    }
 }
 
-fn deliver(
-    alloc: Global,
-    letters: &str,
-    ids: &[u64],
-    unread_id: bool,
-    line: &mut String,
-) -> Result<(), AllocError> {
+fn deliver(alloc: Global, letters: &str, ids: &[u64], unread_id: bool, line: &mut Line) {
     let mut unread = unread_id;
-    let letters = letters_in(alloc, letters, &mut unread)?;
-    if unread {
-        line.push_str("no number")
-    } else {
-        tell_merged(alloc, letters.as_slice(), ids, line)
+    match letters_in(alloc, letters, &mut unread) {
+        Ok(_) if unread => line.put("no number"),
+        Ok(letters) => tell_merged(alloc, letters.as_slice(), ids, line),
+        Err(_) => line.cut(),
     }
 }
 
@@ -82,21 +78,20 @@ fn integer_in(word: &str, unread: &mut bool) -> i64 {
 }
 
 // Merges the letters, if the ids rise and the letters are distinct.
-fn tell_merged(
-    alloc: Global,
-    letters: &[Letter],
-    ids: &[u64],
-    line: &mut String,
-) -> Result<(), AllocError> {
+fn tell_merged(alloc: Global, letters: &[Letter], ids: &[u64], line: &mut Line) {
     if !are_rising(ids) {
-        return line.push_str("the ids do not rise");
+        return line.put("the ids do not rise");
     }
     if !are_distinct(letters) {
-        return line.push_str("two letters of one source have one number");
+        return line.put("two letters of one source have one number");
     }
-    let (inboxes, dropped) = merge(alloc, letters, ids)?;
-    tell_inboxes(&inboxes, line)?;
-    write!(line, "dropped {dropped}")
+    match merge(alloc, letters, ids) {
+        Ok((inboxes, dropped)) => {
+            tell_inboxes(&inboxes, line);
+            line.add("dropped ", &dropped);
+        }
+        Err(_) => line.cut(),
+    }
 }
 
 fn are_rising(ids: &[u64]) -> bool
@@ -130,18 +125,17 @@ fn is_among(letter: &Letter, others: &[Letter]) -> bool
     others.iter().any(|other| letter.from == other.from && letter.seq == other.seq)
 }
 
-fn tell_inboxes(inboxes: &[Inbox], line: &mut String) -> Result<(), AllocError> {
+fn tell_inboxes(inboxes: &[Inbox], line: &mut Line) {
     for inbox in inboxes {
-        tell_messages(inbox, line)?;
+        tell_messages(inbox, line);
     }
-    Ok(())
 }
 
-fn tell_messages(inbox: &Inbox, line: &mut String) -> Result<(), AllocError> {
-    line.push('[')?;
+fn tell_messages(inbox: &Inbox, line: &mut Line) {
+    line.put("[");
     for (place, message) in inbox.as_slice().iter().enumerate() {
-        let gap = if place == 0 { "" } else { " " };
-        write!(line, "{gap}{message}")?;
+        line.put(if place == 0 { "" } else { " " });
+        line.show(message);
     }
-    line.push_str("] ")
+    line.put("] ");
 }

@@ -1,38 +1,39 @@
 //! Inputs of calls. `input TEXT` prints the id, the superstep, the count and the value, then the messages, then the edges
 //! as `TARGET:VALUE`. `aggregators TEXT` prints each aggregator's value. A text that is no input prints its first bad line.
 
+use crate::graphs::tell_edges;
 use call_lines::Input;
+use conformance_cases::{Line, halves};
 use sources::CommandFault;
-use std::alloc::{AllocError, Global};
+use std::alloc::Global;
 
 /// Writes the input that a text declares.
-pub fn answer(alloc: Global, case: &str, line: &mut String) -> Result<(), AllocError> {
-    let (kind, text) = case.split_once(' ').unwrap_or((case, ""));
+pub fn answer(alloc: Global, case: &str, line: &mut Line) {
+    let (kind, text) = halves(case, " ");
     match Input::read(alloc, text) {
         Ok(input) if kind == "aggregators" => tell_aggregators(&input, line),
         Ok(input) => tell_input(&input, line),
-        Err(fault) => write!(line, "{}", CommandFault::Input(fault)),
+        Err(fault) => line.show(&CommandFault::Input(fault)),
     }
 }
 
-fn tell_input(input: &Input, line: &mut String) -> Result<(), AllocError> {
+fn tell_input(input: &Input, line: &mut Line) {
     let input = input.call_input();
     let (id, superstep) = (input.id, input.superstep);
     let (count, value) = (input.count, input.value);
-    write!(line, "{id} {superstep} {count} {value}")?;
+    line.show(&id);
+    line.add(" ", &superstep);
+    line.add(" ", &count);
+    line.add(" ", &value);
     for value in input.messages {
-        write!(line, " {value}")?;
+        line.add(" ", value);
     }
-    for (target, value) in input.edges {
-        write!(line, " {target}:{value}")?;
-    }
-    Ok(())
+    tell_edges(input.edges, line);
 }
 
-fn tell_aggregators(input: &Input, line: &mut String) -> Result<(), AllocError> {
-    for (aggregator, value) in input.call_input().aggregated.iter().enumerate() {
-        let space = if aggregator == 0 { "" } else { " " };
-        write!(line, "{space}{value}")?;
+fn tell_aggregators(input: &Input, line: &mut Line) {
+    for value in &input.call_input().aggregated {
+        line.gap(" ");
+        line.show(value);
     }
-    Ok(())
 }

@@ -6,75 +6,47 @@
 
 mod by_hand;
 
-use anyhow::Result;
 use by_hand::tell_first_superstep;
-use conformance_cases::{CaseFiles, fault_told, job_in, named, show_cases};
+use conformance_cases::{CaseFiles, Line, job_in, tell_fault};
 use plain_run::one_machine;
-use std::alloc::{AllocError, Global};
+use std::alloc::Global;
 use std::thread::Threads;
 use superstep::{EndReason, Job, JobEnd};
 
-/// Shows the cases of jobs.
-pub fn show(rt: &(impl CaseFiles + Print + AllocGlobal + Threads + Sync)) -> Result<()> {
-    show_cases(
-        rt,
-        "superstep/jobs.txt",
-        |_, line| answer(rt, named(line).1),
-    )
-}
-
-fn answer(rt: &(impl CaseFiles + AllocGlobal + Threads + Sync), case: &str) -> Result<String> {
-    match job_in(rt, case)? {
-        Ok(job) => Ok(told(rt, rt.alloc(), &job, case.contains(" copied; "))?),
-        Err(fault) => Ok(fault_told(rt.alloc(), fault)?),
+/// Writes how a case's job ends, or its state after the first superstep.
+pub fn answer(rt: &(impl CaseFiles + AllocGlobal + Threads + Sync), case: &str, line: &mut Line) {
+    match job_in(rt, case) {
+        Ok(Ok(job)) if case.contains(" copied; ") => {
+            tell_first_superstep(rt, rt.alloc(), &job, line)
+        }
+        Ok(Ok(job)) => run(rt, rt.alloc(), &job, line),
+        Ok(Err(fault)) => tell_fault(fault, line),
+        Err(error) => line.show(&error),
     }
 }
 
-fn told(
-    rt: &(impl Threads + Sync),
-    alloc: Global,
-    job: &Job,
-    is_copied: bool,
-) -> Result<String, AllocError> {
-    let mut line = String::new(alloc);
-    run(rt, alloc, job, is_copied, &mut line)?;
-    Ok(line)
-}
-
-fn run(
-    rt: &(impl Threads + Sync),
-    alloc: Global,
-    job: &Job,
-    is_copied: bool,
-    line: &mut String,
-) -> Result<(), AllocError> {
-    if is_copied {
-        return tell_first_superstep(rt, alloc, job, line);
+fn run(rt: &(impl Threads + Sync), alloc: Global, job: &Job, line: &mut Line) {
+    match one_machine(rt, alloc, job) {
+        Ok(ended) => tell(&ended, line),
+        Err(_) => line.cut(),
     }
-    let ended = one_machine(rt, alloc, job)?;
-    tell(&ended, line)
 }
 
-fn tell(ended: &JobEnd, line: &mut String) -> Result<(), AllocError> {
+fn tell(ended: &JobEnd, line: &mut Line) {
     for (id, value) in &ended.values {
-        write!(line, "v {id} {value}, ")?;
+        line.add("v ", id);
+        line.add(" ", value);
+        line.put(", ");
     }
-    let how = match ended.how {
+    line.put(match ended.how {
         EndReason::Finished => "finished",
         EndReason::Limit => "limit",
-    };
-    let (superstep, units, dropped) = (ended.superstep, ended.units, ended.dropped);
-    write!(
-        line,
-        "{how} supersteps {superstep} units {units} dropped {dropped}, since {}",
-        ended.since
-    )?;
-    tell_units(&ended.by_superstep, line)
-}
-
-fn tell_units(by_superstep: &[u128], line: &mut String) -> Result<(), AllocError> {
-    for units in by_superstep {
-        write!(line, " {units}")?;
+    });
+    line.add(" supersteps ", &ended.superstep);
+    line.add(" units ", &ended.units);
+    line.add(" dropped ", &ended.dropped);
+    line.add(", since ", &ended.since);
+    for units in &ended.by_superstep {
+        line.add(" ", units);
     }
-    Ok(())
 }

@@ -1,7 +1,7 @@
 //! Modules as cases spell them. One function here owns each module, and the functions that show it borrow it.
 
 use bounded_profile::verify;
-use conformance_cases::bytes;
+use conformance_cases::{Line, bytes};
 use sources::CommandFault;
 use std::alloc::{AllocError, Global};
 use validate::{Valid, validate};
@@ -61,10 +61,16 @@ pub fn verified_of(alloc: Global, text: &str) -> Result<Verified, CommandFault<'
 
 /// Returns the instruction that a text spells, if it is one that neither branches nor calls.
 pub fn plain_of(alloc: Global, text: &str) -> Result<Option<Plain>, AllocError> {
-    let text = format!(in alloc; "(module (func {text}))")?;
-    match assembled(alloc, text.as_str()) {
-        Ok(module) => Ok(only_plain(&module)),
-        Err(_) => Ok(None),
+    match format!(in alloc; "(module (func {text}))") {
+        Ok(text) => Ok(plain_in(alloc, text.as_str())),
+        Err(error) => Err(error),
+    }
+}
+
+fn plain_in(alloc: Global, text: &str) -> Option<Plain> {
+    match assembled(alloc, text) {
+        Ok(module) => only_plain(&module),
+        Err(_) => None,
     }
 }
 
@@ -76,11 +82,6 @@ fn only_plain(module: &Module) -> Option<Plain> {
         [Instr::Plain(plain)] => Some(*plain),
         _ => None,
     }
-}
-
-/// Returns the line that the program prints for a fault.
-pub fn line_of(alloc: Global, fault: CommandFault<'static>) -> Result<String, AllocError> {
-    format!(in alloc; "{fault}")
 }
 
 /// Prints the module as text.
@@ -102,16 +103,12 @@ pub fn spelling(alloc: Global, module: &Module) -> Result<Vec<u8>, EncodeFault> 
 }
 
 /// Writes the line of a fault, with the words of the fault's own crate if they are others.
-pub fn tell_agreed(
-    alloc: Global,
-    fault: CommandFault<'static>,
-    own: &str,
-    line: &mut String,
-) -> Result<(), AllocError> {
-    let told = line_of(alloc, fault)?;
-    if told.as_str() == own {
-        line.push_str(own)
-    } else {
-        write!(line, "{told}, in other words {own}")
+pub fn tell_agreed(alloc: Global, fault: CommandFault<'static>, own: &Line, line: &mut Line) {
+    let mut told = Line::new(alloc);
+    told.show(&fault);
+    line.append(&told);
+    if told.as_str() != own.as_str() {
+        line.put(", in other words ");
+        line.append(own);
     }
 }

@@ -7,11 +7,11 @@ mod large;
 mod small;
 
 use crate::modules::plain_of;
-use std::alloc::{AllocError, Global};
-use wasm_ast::{
-    Conversion, Numeric, Plain, ValType, Value, i32_eqz, i32_wrap_i64, i64_eqz, i64_extend_i32_s,
-    i64_extend_i32_u,
-};
+use conformance_cases::{Line, halves};
+use numeric_values::{i32_eqz, i32_wrap_i64, i64_eqz, i64_extend_i32_s, i64_extend_i32_u};
+use std::alloc::Global;
+use std::fmt;
+use wasm_ast::{Conversion, Numeric, Plain, ValType, Value};
 
 /// The value of an instruction, by the function of its name and by its enum.
 #[derive(Clone, Copy)]
@@ -21,7 +21,7 @@ pub struct Given {
 }
 
 impl Given {
-    // Makes the value of an instruction that has no enum with a method.
+    // Makes the value of an instruction that no function computes by an enum.
     fn by_function_alone(value: Value) -> Given {
         Given {
             by_function: value,
@@ -31,13 +31,14 @@ impl Given {
 }
 
 /// Writes the value of an instruction on its operands.
-pub fn answer(alloc: Global, case: &str, line: &mut String) -> Result<(), AllocError> {
-    let (name, operands) = case.split_once(' ').unwrap_or((case, ""));
-    match (plain_of(alloc, name)?, operands_in(operands)) {
-        (Some(Plain::Numeric(numeric)), Some((first, second))) => {
+pub fn answer(alloc: Global, case: &str, line: &mut Line) {
+    let (name, operands) = halves(case, " ");
+    match (plain_of(alloc, name), operands_in(operands)) {
+        (Ok(Some(Plain::Numeric(numeric))), Some((first, second))) => {
             tell(outcome(numeric, first, second), line)
         }
-        _ => line.push_str("no numeric instruction with operands"),
+        (Ok(_), _) => line.put("no numeric instruction with operands"),
+        (Err(_), _) => line.cut(),
     }
 }
 
@@ -101,26 +102,35 @@ fn converted(conversion: Conversion, x: u64) -> Value {
 }
 
 // Writes the value, or both values if the function and the enum do not agree.
-fn tell(given: Option<Given>, line: &mut String) -> Result<(), AllocError> {
+fn tell(given: Option<Given>, line: &mut Line) {
     let Some(given) = given else {
-        return line.push_str("trap");
+        return line.put("trap");
     };
-    tell_value(given.by_function, line)?;
-    if given.by_enum == given.by_function {
-        return Ok(());
+    tell_value(given.by_function, line);
+    if given.by_enum != given.by_function {
+        line.put(", by the enum ");
+        tell_value(given.by_enum, line);
     }
-    line.push_str(", by the enum ")?;
-    tell_value(given.by_enum, line)
 }
 
-fn tell_value(value: Value, line: &mut String) -> Result<(), AllocError> {
+fn tell_value(value: Value, line: &mut Line) {
     let (signed, unsigned) = match value {
         Value::I32(number) => (i64::from(number.cast_signed()), u64::from(number)),
         Value::I64(number) => (number.cast_signed(), number),
     };
     if (-99..100).contains(&signed) {
-        write!(line, "{signed}")
+        line.show(&signed);
     } else {
-        write!(line, "{unsigned:#x}")
+        line.show(&Hexadecimal(unsigned));
+    }
+}
+
+// A number in hexadecimal digits after `0x`.
+#[derive(Clone, Copy)]
+struct Hexadecimal(u64);
+
+impl fmt::Display for Hexadecimal {
+    fn fmt<W: fmt::Write>(&self, f: &mut fmt::Formatter<W>) -> fmt::Result {
+        write!(f, "{:#x}", self.0)
     }
 }

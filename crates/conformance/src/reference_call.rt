@@ -11,7 +11,6 @@ mod start;
 
 use host::call_host;
 use operands::Operands;
-use plain::act_plain;
 use start::defined_function;
 use std::alloc::Global;
 use verified::{
@@ -151,13 +150,7 @@ impl<'a> Walk<'a, '_, '_> {
     /// Executes the first instruction of a sequence.
     fn take(&mut self, first: &'a Instr, whole: &'a [Instr]) {
         match first {
-            Instr::Plain(plain) => act_plain(
-                *plain,
-                &mut self.operands,
-                &mut self.locals,
-                &mut self.globals,
-                &mut self.memory,
-            ),
+            Instr::Plain(plain) => self.act(*plain),
             Instr::Branch(branch) => self.branch(branch),
             Instr::Call(number) => self.call(*number),
             Instr::CallIndirect(_) => self.operands.stop(Stop::Stuck),

@@ -4,8 +4,8 @@
 use crate::binary::sweep::{ALL, EVERYWHERE, Places, SOME, swept};
 use crate::modules::{assembled, module_of, printed, spelling};
 use anyhow::{Result, bail};
-use conformance_cases::CaseFiles;
-use std::alloc::{AllocError, Global};
+use conformance_cases::{CaseFiles, Line};
+use std::alloc::Global;
 use wasm_ast::Module;
 
 /// Prints what becomes of a file's module, damaged at these places. A file whose name ends in `.wat` is text, any other is
@@ -16,9 +16,9 @@ pub fn show_damaged(
     places: Places,
 ) -> Result<()> {
     let mut bytes = bytes_of(rt, file)?;
-    let mut line = String::new(rt.alloc());
-    swept(rt.alloc(), &mut bytes, places, ALL, &mut line)?;
-    println!(rt; "{line}")?;
+    let mut line = Line::new(rt.alloc());
+    swept(rt.alloc(), &mut bytes, places, ALL, &mut line);
+    println!(rt; "{}", line.finish()?)?;
     Ok(())
 }
 
@@ -41,48 +41,42 @@ fn spelled(alloc: Global, module: &Module) -> Result<Vec<u8>> {
 }
 
 /// Writes what becomes of a module's bytes, damaged at each place.
-pub fn tell_damaged(alloc: Global, module: &Module, line: &mut String) -> Result<(), AllocError> {
+pub fn tell_damaged(alloc: Global, module: &Module, line: &mut Line) {
     match spelling(alloc, module) {
         Ok(mut bytes) => swept(alloc, &mut bytes, EVERYWHERE, SOME, line),
-        Err(_) => line.push_str("not spelled"),
+        Err(_) => line.put("not spelled"),
     }
 }
 
 /// Writes whether the printed text spells the module, and how long its bytes are.
-pub fn tell_again(alloc: Global, module: &Module, line: &mut String) -> Result<(), AllocError> {
-    line.push_str(again(alloc, module)?)?;
+pub fn tell_again(alloc: Global, module: &Module, line: &mut Line) {
+    match printed(alloc, module) {
+        Ok(text) => line.put(again(alloc, module, text.as_str())),
+        Err(_) => line.cut(),
+    }
     match spelling(alloc, module) {
-        Ok(bytes) => write!(line, ", {} bytes", bytes.len()),
-        Err(_) => line.push_str(", not spelled"),
+        Ok(bytes) => {
+            line.add(", ", &bytes.len());
+            line.put(" bytes");
+        }
+        Err(_) => line.put(", not spelled"),
     }
 }
 
-// Returns whether the printed text spells the module, and whether that one is printed in the same way.
-fn again(alloc: Global, module: &Module) -> Result<&'static str, AllocError> {
-    let text = printed(alloc, module)?;
-    again_of_text(alloc, module, text.as_str())
-}
-
-fn again_of_text(alloc: Global, module: &Module, text: &str) -> Result<&'static str, AllocError> {
+// Returns whether the text spells the module, and whether that one is printed in the same way.
+fn again(alloc: Global, module: &Module, text: &str) -> &'static str {
     match assembled(alloc, text) {
         Ok(spelled) => again_of_spelled(alloc, module, &spelled, text),
-        Err(_) => Ok("another"),
+        Err(_) => "another",
     }
 }
 
-fn again_of_spelled(
-    alloc: Global,
-    module: &Module,
-    spelled: &Module,
-    text: &str,
-) -> Result<&'static str, AllocError> {
+fn again_of_spelled(alloc: Global, module: &Module, spelled: &Module, text: &str) -> &'static str {
     if spelled != module {
-        return Ok("another");
+        return "another";
     }
-    let once_more = printed(alloc, spelled)?;
-    Ok(if once_more.as_str() == text {
-        "same"
-    } else {
-        "another text"
-    })
+    match printed(alloc, spelled) {
+        Ok(once_more) if once_more.as_str() == text => "same",
+        _ => "another text",
+    }
 }

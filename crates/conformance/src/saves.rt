@@ -4,45 +4,36 @@
 
 use anyhow::Result;
 use checkpoint::{Device, FileKeep, Keep, MemoryKeep};
-use conformance_cases::{CaseFiles, bytes, named, show_cases};
-use std::alloc::AllocError;
+use conformance_cases::{CaseFiles, Line, bytes, halves};
 
-pub fn show(rt: &(impl CaseFiles + Device + Print + AllocGlobal)) -> Result<()> {
-    show_cases(rt, "checkpoint/keeps.txt", |_, case| answer(rt, case))
-}
-
-fn answer(rt: &(impl CaseFiles + Device + AllocGlobal), case: &str) -> Result<String> {
-    let (place, steps) = named(case).1.split_once("; ").unwrap_or((case, ""));
+/// Writes what is loaded after each save of a case.
+pub fn answer(rt: &(impl CaseFiles + Device + AllocGlobal), case: &str, line: &mut Line) {
+    let (place, steps) = halves(case, "; ");
     if place == "memory" {
-        Ok(told(rt, &mut MemoryKeep::new(rt.alloc()), steps)?)
-    } else {
-        Ok(told(rt, &mut FileKeep::new(rt.alloc(), place)?, steps)?)
+        return tell(rt, &mut MemoryKeep::new(rt.alloc()), steps, line);
     }
-}
-
-fn told<R: CaseFiles + Device + AllocGlobal, K: Keep>(
-    rt: &R,
-    keep: &mut K,
-    steps: &str,
-) -> Result<String, AllocError> {
-    let mut text = String::new(rt.alloc());
-    tell(rt, keep, steps, &mut text)?;
-    Ok(text)
+    match FileKeep::new(rt.alloc(), place) {
+        Ok(mut keep) => tell(rt, &mut keep, steps, line),
+        Err(_) => line.cut(),
+    }
 }
 
 fn tell<R: CaseFiles + Device + AllocGlobal, K: Keep>(
     rt: &R,
     keep: &mut K,
     steps: &str,
-    text: &mut String,
-) -> Result<(), AllocError> {
+    line: &mut Line,
+) {
     for step in steps.split(", ") {
         match kept(rt, keep, step) {
-            Ok(bytes) => tell_bytes(bytes.as_slice(), text),
-            Err(fault) => write!(text, "{fault} "),
-        }?;
+            Ok(bytes) => tell_bytes(bytes.as_slice(), line),
+            Err(fault) => {
+                line.show(&fault);
+                line.put(" ");
+            }
+        }
     }
-    write!(text, "failures {}", keep.failures())
+    line.add("failures ", &keep.failures());
 }
 
 // Saves the bytes of a step, writes the other bytes, and loads.
@@ -51,8 +42,8 @@ fn kept<R: CaseFiles + Device + AllocGlobal, K: Keep>(
     keep: &mut K,
     step: &str,
 ) -> Result<Vec<u8>> {
-    let (saved, written) = step.split_once(" by ").unwrap_or((step, ""));
-    let (superstep, spelling) = saved.split_once(' ').unwrap_or((saved, ""));
+    let (saved, written) = halves(step, " by ");
+    let (superstep, spelling) = halves(saved, " ");
     let superstep = superstep.parse::<u32>()?;
     keep.save(rt, superstep, &bytes(rt.alloc(), spelling)?)?;
     write_others(rt, written)?;
@@ -60,16 +51,16 @@ fn kept<R: CaseFiles + Device + AllocGlobal, K: Keep>(
 }
 
 fn write_others(rt: &(impl CaseFiles + AllocGlobal), written: &str) -> Result<()> {
-    if let Some((file, spelling)) = written.split_once(' ') {
-        rt.put(file, &bytes(rt.alloc(), spelling)?)?;
+    match written.split_once(' ') {
+        Some((file, spelling)) => rt.put(file, &bytes(rt.alloc(), spelling)?),
+        None => Ok(()),
     }
-    Ok(())
 }
 
-fn tell_bytes(bytes: &[u8], text: &mut String) -> Result<(), AllocError> {
-    text.push('[')?;
+fn tell_bytes(bytes: &[u8], line: &mut Line) {
+    line.put("[");
     for byte in bytes {
-        write!(text, "{byte:02X}")?;
+        line.byte(*byte);
     }
-    text.push_str("] ")
+    line.put("] ");
 }

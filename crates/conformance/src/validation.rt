@@ -1,6 +1,7 @@
 //! The validity of modules (Core 1.0, section 3): `ok`, or `no valid` with the broken rule and its place.
 
 use crate::modules::{module_of, tell_agreed};
+use conformance_cases::Line;
 use sources::CommandFault;
 use std::alloc::{AllocError, Global};
 use std::mem;
@@ -8,41 +9,40 @@ use validate::{ValidFault, validate};
 use wasm_ast::{Body, Function, Instr, Module, Sequence};
 
 /// Writes whether the module that a text spells is valid.
-pub fn answer(alloc: Global, text: &str, line: &mut String) -> Result<(), AllocError> {
+pub fn answer(alloc: Global, text: &str, line: &mut Line) {
     match module_of(alloc, text) {
         Ok(module) => tell_validity(alloc, module, line),
-        Err(fault) => write!(line, "{fault}"),
+        Err(fault) => line.show(&fault),
     }
 }
 
-fn tell_validity(alloc: Global, module: Box<Module>, line: &mut String) -> Result<(), AllocError> {
+fn tell_validity(alloc: Global, module: Box<Module>, line: &mut Line) {
     match validate(alloc, Box::into_inner(module)) {
-        Ok(_) => line.push_str("ok"),
+        Ok(_) => line.put("ok"),
         Err(fault) => tell_fault(alloc, fault, line),
     }
 }
 
 /// Writes a fault's line, and its own words if they are others.
-pub fn tell_fault(alloc: Global, fault: ValidFault, line: &mut String) -> Result<(), AllocError> {
-    let own = format!(in alloc; "no valid {fault}")?;
-    tell_agreed(alloc, CommandFault::from(fault), own.as_str(), line)
+pub fn tell_fault(alloc: Global, fault: ValidFault, line: &mut Line) {
+    let mut own = Line::new(alloc);
+    own.add("no valid ", &fault);
+    tell_agreed(alloc, CommandFault::from(fault), &own, line);
 }
 
 /// Answers for the module with each body in one block more. So blocks can be nested deeper than any text or bytes allow.
-pub fn answer_in_a_block(alloc: Global, text: &str, line: &mut String) -> Result<(), AllocError> {
+pub fn answer_in_a_block(alloc: Global, text: &str, line: &mut Line) {
     match module_of(alloc, text) {
         Ok(module) => tell_validity_in_blocks(alloc, module, line),
-        Err(fault) => write!(line, "{fault}"),
+        Err(fault) => line.show(&fault),
     }
 }
 
-fn tell_validity_in_blocks(
-    alloc: Global,
-    mut module: Box<Module>,
-    line: &mut String,
-) -> Result<(), AllocError> {
-    put_in_blocks(alloc, &mut module)?;
-    tell_validity(alloc, module, line)
+fn tell_validity_in_blocks(alloc: Global, mut module: Box<Module>, line: &mut Line) {
+    match put_in_blocks(alloc, &mut module) {
+        Ok(()) => tell_validity(alloc, module, line),
+        Err(_) => line.cut(),
+    }
 }
 
 fn put_in_blocks(alloc: Global, module: &mut Module) -> Result<(), AllocError> {

@@ -1,11 +1,11 @@
 //! Jobs, as cases spell them.
 
 use crate::case_files::CaseFiles;
-use crate::spelling::spelled;
+use crate::line::Line;
+use crate::spelling::{halves, spelled};
 use anyhow::{Result, bail};
 use graph::Graph;
 use sources::{Source, load};
-use std::alloc::{AllocError, Global};
 use std::num::ParseIntError;
 use superstep::{Job, JobFault, Settings};
 use verified::Verified;
@@ -13,8 +13,8 @@ use verified::Verified;
 /// Makes the job of `PARTS WORKERS EVERY LIMIT LEASE; MODULE; GRAPH`, or returns the setting that is out of its range.
 /// MODULE is a file. GRAPH is a file, or the text of a graph.
 pub fn job_in(rt: &(impl CaseFiles + AllocGlobal), case: &str) -> Result<Result<Job, JobFault>> {
-    let (settings, rest) = case.split_once("; ").unwrap_or((case, ""));
-    let (module, graph) = rest.split_once("; ").unwrap_or((rest, ""));
+    let (settings, rest) = halves(case, "; ");
+    let (module, graph) = halves(rest, "; ");
     let settings = settings_of(settings)?;
     job_over(rt, module, graph_in(rt, graph)?, settings)
 }
@@ -69,10 +69,17 @@ fn verified_in(rt: &(impl CaseFiles + AllocGlobal), path: &str) -> Result<Verifi
 }
 
 /// Writes a fault in words.
-pub fn fault_told(alloc: Global, fault: JobFault) -> Result<String, AllocError> {
+pub fn tell_fault(fault: JobFault, line: &mut Line) {
     match fault {
-        JobFault::Settings(setting) => format!(in alloc; "settings {setting:?}"),
-        JobFault::OutOfMemory(place) => format!(in alloc; "{fault} {place:?}"),
-        _ => format!(in alloc; "{fault}"),
+        JobFault::Settings(setting) => {
+            line.put("settings ");
+            line.debug(&setting);
+        }
+        JobFault::OutOfMemory(place) => {
+            line.show(&fault);
+            line.put(" ");
+            line.debug(&place);
+        }
+        _ => line.show(&fault),
     }
 }

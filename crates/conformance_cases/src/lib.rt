@@ -3,10 +3,12 @@
 
 mod case_files;
 mod jobs;
+mod line;
 mod showing;
 mod spelling;
 
 pub use case_files::CaseFiles;
-pub use jobs::{fault_told, job_in};
-pub use showing::{show_cases, show_texts};
-pub use spelling::{bytes, is_case, named, one_line, push_digits, spelled};
+pub use jobs::{job_in, tell_fault};
+pub use line::Line;
+pub use showing::{Answers, show_texts};
+pub use spelling::{bytes, halves, is_case, named, push_digits, spelled};

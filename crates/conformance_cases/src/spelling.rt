@@ -1,5 +1,6 @@
 //! How cases are spelled, one on a line.
 
+use crate::line::Line;
 use std::alloc::{AllocError, Global};
 
 /// Returns whether a line is a case. Blank lines and lines that begin with `#` are none.
@@ -7,50 +8,52 @@ pub fn is_case(line: &str) -> bool {
     !line.trim().is_empty() && !line.starts_with('#')
 }
 
+/// Splits a text at the first gap. If it has no gap, the second half is empty.
+pub fn halves<'a>(text: &'a str, gap: &str) -> (&'a str, &'a str) {
+    text.split_once(gap).unwrap_or((text, ""))
+}
+
 /// Splits a line into the case's name, and the text after the first `: `.
 pub fn named(line: &str) -> (&str, &str) {
-    line.split_once(": ").unwrap_or((line, ""))
+    halves(line, ": ")
 }
 
 /// Spells out a line: `↵`, `␍`, `⇥`, `␌` and `⍽` are LF, CR, a tab, a form feed and a no-break space, and `⟦N|TEXT⟧` is
 /// TEXT, N times.
 pub fn spelled(alloc: Global, line: &str) -> Result<String, AllocError> {
-    let mut text = String::new(alloc);
-    spell(line, &mut text)?;
-    Ok(text)
+    let mut text = Line::new(alloc);
+    spell(line, &mut text);
+    text.finish()
 }
 
-fn spell(line: &str, text: &mut String) -> Result<(), AllocError> {
-    let (before, others) = line.split_once('⟦').unwrap_or((line, ""));
-    append(before, text)?;
+fn spell(line: &str, text: &mut Line) {
+    let (before, others) = halves(line, "⟦");
+    append(before, text);
     for part in others.split('⟦') {
-        spell_part(part, text)?;
+        spell_part(part, text);
     }
-    Ok(())
 }
 
 // Spells out the repeated text, if a bracket ends it, and the text after it.
-fn spell_part(part: &str, text: &mut String) -> Result<(), AllocError> {
+fn spell_part(part: &str, text: &mut Line) {
     let Some((repeated, rest)) = part.split_once('⟧') else {
         return append(part, text);
     };
-    repeat(repeated, text)?;
-    append(rest, text)
+    repeat(repeated, text);
+    append(rest, text);
 }
 
-fn repeat(repeated: &str, text: &mut String) -> Result<(), AllocError> {
+fn repeat(repeated: &str, text: &mut Line) {
     let (count, part) = repeated.split_once('|').unwrap_or(("1", repeated));
     for _ in 0..count.parse::<u32>().unwrap_or(0) {
-        append(part, text)?;
+        append(part, text);
     }
-    Ok(())
 }
 
-fn append(part: &str, text: &mut String) -> Result<(), AllocError> {
+fn append(part: &str, text: &mut Line) {
     for character in part.chars() {
-        text.push(meant(character))?;
+        text.push(meant(character));
     }
-    Ok(())
 }
 
 // Returns the character that this one means.
@@ -63,11 +66,6 @@ fn meant(character: char) -> char {
         '⍽' => '\u{a0}',
         _ => character,
     }
-}
-
-/// Writes a text on one line, with `↵` for each LF.
-pub fn one_line(alloc: Global, text: &str) -> Result<String, AllocError> {
-    text.replace(alloc, '\n', "↵")
 }
 
 /// Reads bytes, two hexadecimal digits each, with blanks between them and `⟦N|..⟧` for N times.

@@ -11,7 +11,7 @@
 
 pub mod lent_files;
 
-use checkpoint::Device;
+use checkpoint::{Device, Folder};
 use clap::error::ErrorKind;
 use command_line::options;
 use console::command;
@@ -23,10 +23,9 @@ use session::ServeFault;
 use sources::{Source, refusal_line};
 use std::alloc::{AllocError, Global};
 use std::io::Write;
-use std::rt::Files;
 use std::sync::Wait;
 use std::thread::Threads;
-use std::{fs, iter, str};
+use std::{iter, str};
 use threaded_session::serve_in_threads;
 use workers::NoLoss;
 
@@ -83,7 +82,7 @@ fn asked_by(case: &str) -> Asked<'_> {
 
 /// Writes the answer to a case.
 pub fn tell(
-    rt: &(impl Files + Device + AllocGlobal + Threads + Wait + Sync),
+    rt: &(impl Device + Folder + AllocGlobal + Threads + Wait + Sync),
     case: &str,
     files: &mut LentFiles,
     text: &mut String,
@@ -100,17 +99,17 @@ pub fn tell(
 
 // Empties a file, executes a command, and shows the file.
 fn tell_kept(
-    rt: &(impl Files + Device + AllocGlobal + Threads + Wait + Sync),
+    rt: &(impl Device + Folder + AllocGlobal + Threads + Wait + Sync),
     line: &str,
     file: &str,
     files: &mut LentFiles,
     text: &mut String,
 ) -> Result<(), AllocError> {
-    if fs::write(rt, file, b"".as_slice()).is_err() {
+    if rt.make_empty(file).is_err() {
         return text.push_str("not emptied");
     }
     tell_answer(rt, line, files, text)?;
-    match fs::read(rt, file) {
+    match rt.read_bytes(file) {
         Ok(bytes) => files.tell_file(file, &bytes, text),
         Err(_) => text.push_str(" not read"),
     }
@@ -125,7 +124,7 @@ fn words_of(alloc: Global, line: &str) -> Result<Vec<&str>, AllocError> {
 
 // Executes a command. Shows the status, the answer and the files that were written.
 fn tell_answer(
-    rt: &(impl Files + Device + AllocGlobal + Threads + Wait + Sync),
+    rt: &(impl Device + Folder + AllocGlobal + Threads + Wait + Sync),
     line: &str,
     files: &mut LentFiles,
     text: &mut String,
@@ -166,7 +165,7 @@ fn tell_status(
 // Executes a command with a writer that has room for so many bytes. Shows the status, or the fault and the bytes that the
 // writer took.
 fn tell_front(
-    rt: &(impl Files + Device + AllocGlobal + Threads + Wait + Sync),
+    rt: &(impl Device + Folder + AllocGlobal + Threads + Wait + Sync),
     line: &str,
     room: usize,
     files: &mut LentFiles,
@@ -210,7 +209,7 @@ enum Fate {
 
 // Executes a command.
 fn done<W: Write>(
-    rt: &(impl Files + Device + AllocGlobal + Threads + Wait + Sync),
+    rt: &(impl Device + Folder + AllocGlobal + Threads + Wait + Sync),
     line: &str,
     files: &mut LentFiles,
     out: &mut W,
@@ -221,7 +220,7 @@ fn done<W: Write>(
 }
 
 fn done_by<W: Write>(
-    rt: &(impl Files + Device + AllocGlobal + Threads + Wait + Sync),
+    rt: &(impl Device + Folder + AllocGlobal + Threads + Wait + Sync),
     words: &[&str],
     files: &mut LentFiles,
     out: &mut W,
@@ -236,7 +235,7 @@ fn done_by<W: Write>(
 }
 
 fn served<W: Write>(
-    rt: &(impl Files + Device + AllocGlobal + Threads + Wait + Sync),
+    rt: &(impl Device + Folder + AllocGlobal + Threads + Wait + Sync),
     files: &mut LentFiles,
     out: &mut W,
 ) -> Fate {
@@ -248,7 +247,7 @@ fn served<W: Write>(
 }
 
 fn carried_out<W: Write>(
-    rt: &(impl Files + Device + AllocGlobal + Threads + Wait + Sync),
+    rt: &(impl Device + Folder + AllocGlobal + Threads + Wait + Sync),
     request: Request<'_>,
     explains: bool,
     files: &mut LentFiles,
@@ -265,7 +264,7 @@ fn carried_out<W: Write>(
 }
 
 fn tell_bounds(
-    rt: &(impl Files + Device + AllocGlobal + Threads + Wait + Sync),
+    rt: &(impl Device + Folder + AllocGlobal + Threads + Wait + Sync),
     body: &str,
     files: &mut LentFiles,
     text: &mut String,

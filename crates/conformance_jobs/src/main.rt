@@ -8,12 +8,10 @@ mod simulations;
 mod threads;
 
 use anyhow::Result;
-use checkpoint::Device;
+use checkpoint::{Device, Folder};
 use commands::lent_files::{LentFiles, lend_files};
-use conformance_cases::{CaseFiles, is_case, named, one_line};
+use conformance_cases::{CaseFiles, Line, is_case, named};
 use std::alloc::AllocError;
-use std::fs;
-use std::rt::Files;
 use std::sync::Wait;
 use std::thread::Threads;
 
@@ -22,7 +20,7 @@ fn main(rt: HostRuntime) -> Result<()> {
 }
 
 fn show(
-    rt: &(impl Files + CaseFiles + Device + Print + AllocGlobal + Threads + Wait + Sync),
+    rt: &(impl CaseFiles + Device + Folder + Print + AllocGlobal + Threads + Wait + Sync),
 ) -> Result<()> {
     simulations::show(rt)?;
     threads::show(rt)?;
@@ -38,7 +36,7 @@ enum Cases {
 }
 
 fn show_over(
-    rt: &(impl Files + CaseFiles + Device + Print + AllocGlobal + Threads + Wait + Sync),
+    rt: &(impl CaseFiles + Device + Folder + Print + AllocGlobal + Threads + Wait + Sync),
     files: &mut LentFiles,
 ) -> Result<()> {
     lend_files(rt, files)?;
@@ -47,17 +45,17 @@ fn show_over(
 }
 
 fn show_file(
-    rt: &(impl Files + CaseFiles + Device + Print + AllocGlobal + Threads + Wait + Sync),
+    rt: &(impl CaseFiles + Device + Folder + Print + AllocGlobal + Threads + Wait + Sync),
     path: &str,
     cases: Cases,
     files: &mut LentFiles,
 ) -> Result<()> {
-    let text = fs::read_to_string(rt, path)?;
+    let text = rt.text_of(path)?;
     show_lines(rt, text.as_str(), cases, files)
 }
 
 fn show_lines(
-    rt: &(impl Files + CaseFiles + Device + Print + AllocGlobal + Threads + Wait + Sync),
+    rt: &(impl CaseFiles + Device + Folder + Print + AllocGlobal + Threads + Wait + Sync),
     text: &str,
     cases: Cases,
     files: &mut LentFiles,
@@ -71,7 +69,7 @@ fn show_lines(
 }
 
 fn show_line(
-    rt: &(impl Files + CaseFiles + Device + Print + AllocGlobal + Threads + Wait + Sync),
+    rt: &(impl CaseFiles + Device + Folder + Print + AllocGlobal + Threads + Wait + Sync),
     line: &str,
     cases: Cases,
     files: &mut LentFiles,
@@ -91,20 +89,23 @@ fn name_of(line: &str, cases: Cases) -> &str {
 
 // Returns the answer to a case on one line.
 fn answer(
-    rt: &(impl Files + CaseFiles + Device + AllocGlobal + Threads + Wait + Sync),
+    rt: &(impl CaseFiles + Device + Folder + AllocGlobal + Threads + Wait + Sync),
     line: &str,
     cases: Cases,
     files: &mut LentFiles,
 ) -> Result<String, AllocError> {
     let mut text = String::new(rt.alloc());
-    match tell(rt, line, cases, files, &mut text) {
-        Ok(()) => one_line(rt.alloc(), text.as_str()),
-        Err(error) => Err(error),
+    let told = tell(rt, line, cases, files, &mut text);
+    let mut answer = Line::new(rt.alloc());
+    match told {
+        Ok(()) => answer.put_lines(text.as_str(), "↵"),
+        Err(_) => answer.cut(),
     }
+    answer.finish()
 }
 
 fn tell(
-    rt: &(impl Files + CaseFiles + Device + AllocGlobal + Threads + Wait + Sync),
+    rt: &(impl CaseFiles + Device + Folder + AllocGlobal + Threads + Wait + Sync),
     line: &str,
     cases: Cases,
     files: &mut LentFiles,

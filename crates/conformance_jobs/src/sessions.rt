@@ -14,6 +14,7 @@ mod lines;
 use crate::commands::lent_files::{LentFiles, spelled_bytes};
 use crate::threads::gates::{Plan, PlannedGate};
 use checkpoint::Device;
+use conformance_cases::halves;
 use lines::{Given, Limits, NO_LIMITS, Taken};
 use plain_session::serve_on_one_machine;
 use run_views::{Loss, LossGate};
@@ -32,7 +33,7 @@ pub fn tell(
     files: &mut LentFiles,
     text: &mut String,
 ) -> Result<(), AllocError> {
-    let (way, lines) = case.split_once("; ").unwrap_or((case, ""));
+    let (way, lines) = halves(case, "; ");
     let lines = spelled_bytes(rt.alloc(), way, lines)?;
     tell_served(rt, way, &lines, files, text)
 }

@@ -21,88 +21,101 @@ pub mod sweeps;
 use anyhow::Result;
 use checkpoint::Device;
 use conformance_cases::{
-    CaseFiles, bytes, fault_told, job_in, named, one_line, show_cases, spelled,
+    CaseFiles, Line, bytes, halves, is_case, job_in, named, spelled, tell_fault,
 };
 use doubles::doubled;
 use faulty_keep::{FaultyKeep, Wrong};
 use plain_commands::{steps_of, trace_text};
-use rollback::{Step, simulate};
+use rollback::{Step, Trace, simulate};
 use std::alloc::{AllocError, Global};
 use std::thread::Threads;
 use superstep::Job;
-use sweeps::{drawn, losses};
+use sweeps::{tell_drawn, tell_losses};
 
 // The answer to a case with a number that is none.
 const NO_NUMBER: &str = "no number";
 
+/// Prints a line for each case.
 pub fn show(rt: &(impl CaseFiles + Device + Print + AllocGlobal + Threads + Sync)) -> Result<()> {
-    show_cases(
-        rt,
-        "rollback/simulations.txt",
-        |_, line| Ok(answer(rt, named(line).1)?),
-    )
+    let text = rt.text_of("rollback/simulations.txt")?;
+    for line in text.lines() {
+        if is_case(line) {
+            show_case(rt, line)?;
+        }
+    }
+    Ok(())
 }
 
-fn answer(
+fn show_case(
+    rt: &(impl CaseFiles + Device + Print + AllocGlobal + Threads + Sync),
+    line: &str,
+) -> Result<()> {
+    let (name, case) = named(line);
+    let case = spelled(rt.alloc(), case)?;
+    let mut answer = Line::new(rt.alloc());
+    tell(rt, case.as_str(), &mut answer);
+    println!(rt; "{name}: {}", answer.finish()?)?;
+    Ok(())
+}
+
+// Writes the answer to a case.
+fn tell(
     rt: &(impl CaseFiles + Device + AllocGlobal + Threads + Sync),
     case: &str,
-) -> Result<String, AllocError> {
-    let lines = lines_of(rt, case)?;
-    one_line(rt.alloc(), lines.as_str())
+    line: &mut Line,
+) {
+    let (keep, job, steps) = parts_of(case);
+    match job_in(rt, job) {
+        Ok(Ok(job)) => tell_job(rt, rt.alloc(), keep, &job, steps, line),
+        Ok(Err(fault)) => tell_fault(fault, line),
+        Err(error) => line.show(&error),
+    }
 }
 
 // Splits a case into the Keep, the job and the steps.
 fn parts_of(case: &str) -> (&str, &str, &str) {
-    let (keep, rest) = case.split_once("; ").unwrap_or((case, ""));
+    let (keep, rest) = halves(case, "; ");
     let (job, steps) = rest.rsplit_once("; ").unwrap_or((rest, ""));
     (keep, job, steps)
 }
 
-fn lines_of(
-    rt: &(impl CaseFiles + Device + AllocGlobal + Threads + Sync),
-    case: &str,
-) -> Result<String, AllocError> {
-    let alloc = rt.alloc();
-    let (keep, job, steps) = parts_of(case);
-    match job_in(rt, job) {
-        Ok(Ok(job)) => lines_over(rt, alloc, keep, &job, steps),
-        Ok(Err(fault)) => fault_told(alloc, fault),
-        Err(error) => format!(in alloc; "{error}"),
-    }
-}
-
-fn lines_over<R: Device + AllocGlobal + Threads + Sync>(
+fn tell_job<R: Device + AllocGlobal + Threads + Sync>(
     rt: &R,
     alloc: Global,
     keep: &str,
     job: &Job,
     steps: &str,
-) -> Result<String, AllocError> {
-    let text = spelled(alloc, steps)?;
-    match steps_of(alloc, text.as_str()) {
-        Ok(steps) => lines_by(rt, alloc, keep, job, &steps),
-        Err(fault) => format!(in alloc; "{fault}"),
+    line: &mut Line,
+) {
+    match steps_of(alloc, steps) {
+        Ok(steps) => tell_steps(rt, alloc, keep, job, &steps, line),
+        Err(fault) => line.show(&fault),
     }
 }
 
-fn lines_by<R: Device + AllocGlobal + Threads + Sync>(
+fn tell_steps<R: Device + AllocGlobal + Threads + Sync>(
     rt: &R,
     alloc: Global,
     keep: &str,
     job: &Job,
     steps: &[Step],
-) -> Result<String, AllocError> {
-    let (word, rest) = keep.split_once(' ').unwrap_or((keep, ""));
+    line: &mut Line,
+) {
+    let (word, rest) = halves(keep, " ");
     match word {
-        "doubled" => doubled(rt, alloc, job, steps),
-        "losses" => losses(rt, alloc, job, steps),
+        "doubled" => doubled(rt, alloc, job, steps, line),
+        "losses" => tell_losses(rt, alloc, job, steps, line),
         "drawn" => match rest.parse::<u32>() {
-            Ok(lists) => drawn(rt, alloc, job, lists),
-            Err(_) => String::from_str(alloc, NO_NUMBER),
+            Ok(lists) => tell_drawn(rt, alloc, job, lists, line),
+            Err(_) => line.put(NO_NUMBER),
         },
-        _ => match wrong_of(alloc, word, rest)? {
-            Some(wrong) => simulated(rt, alloc, job, wrong, steps),
-            None => String::from_str(alloc, NO_NUMBER),
+        _ => match wrong_of(alloc, word, rest) {
+            Ok(Some(wrong)) => {
+                let mut keep = FaultyKeep::new(alloc, wrong);
+                tell_simulated(rt, alloc, job, &mut keep, steps, line);
+            }
+            Ok(None) => line.put(NO_NUMBER),
+            Err(_) => line.cut(),
         },
     }
 }
@@ -123,36 +136,34 @@ fn wrong_of(alloc: Global, word: &str, rest: &str) -> Result<Option<Wrong>, Allo
     })
 }
 
-fn simulated<R: Device + AllocGlobal + Threads + Sync>(
-    rt: &R,
-    alloc: Global,
-    job: &Job,
-    wrong: Wrong,
-    steps: &[Step],
-) -> Result<String, AllocError> {
-    let mut keep = FaultyKeep::new(alloc, wrong);
-    simulated_with(rt, alloc, job, &mut keep, steps)
-}
-
-fn simulated_with<R: Device + AllocGlobal + Threads + Sync>(
+fn tell_simulated<R: Device + AllocGlobal + Threads + Sync>(
     rt: &R,
     alloc: Global,
     job: &Job,
     keep: &mut FaultyKeep,
     steps: &[Step],
-) -> Result<String, AllocError> {
-    let mut text = match simulate(rt, alloc, job, keep, steps) {
-        Ok(trace) => trace_text(alloc, &trace, true),
-        Err(fault) => fault_told(alloc, fault),
-    }?;
-    tell_saved(keep.last(), &mut text)?;
-    Ok(text)
+    line: &mut Line,
+) {
+    match simulate(rt, alloc, job, keep, steps) {
+        Ok(trace) => tell_trace(alloc, &trace, line),
+        Err(fault) => tell_fault(fault, line),
+    }
+    tell_saved(keep.last(), line);
 }
 
-fn tell_saved(bytes: &[u8], text: &mut String) -> Result<(), AllocError> {
-    write!(text, " saved {} bytes", bytes.len())?;
-    for byte in bytes.iter().take(12) {
-        write!(text, " {byte:02X}")?;
+/// Writes the lines of a replay on one line.
+pub fn tell_trace(alloc: Global, trace: &Trace, line: &mut Line) {
+    match trace_text(alloc, trace, true) {
+        Ok(text) => line.put_lines(text.as_str(), "↵"),
+        Err(_) => line.cut(),
     }
-    Ok(())
+}
+
+fn tell_saved(bytes: &[u8], line: &mut Line) {
+    line.add(" saved ", &bytes.len());
+    line.put(" bytes");
+    for byte in bytes.iter().take(12) {
+        line.put(" ");
+        line.byte(*byte);
+    }
 }

@@ -20,13 +20,13 @@ pub mod gates;
 use crate::simulations::faulty_keep::{FaultyKeep, Wrong};
 use crate::simulations::sweeps::are_alike;
 use anyhow::Result;
+use book::Report;
 use checkpoint::{Device, Keep, MemoryKeep};
-use conformance_cases::{CaseFiles, fault_told, job_in, named, show_cases};
+use conformance_cases::{CaseFiles, Line, halves, is_case, job_in, named, spelled, tell_fault};
 use gates::{LateGate, Plan, PlannedGate, WatchedGate};
 use plain_run::one_machine;
-use rollback::Report;
 use run_views::{Loss, LossGate};
-use std::alloc::{AllocError, Global};
+use std::alloc::Global;
 use std::sync::Wait;
 use std::thread::Threads;
 use superstep::{Job, JobEnd, JobFault};
@@ -35,26 +35,42 @@ use workers::{Gate, NoLoss, run_in_threads};
 // How many calls of a device fail in turn.
 const CALLS: u64 = 4;
 
+/// Prints a line for each case.
 pub fn show<R: CaseFiles + Device + Print + AllocGlobal + Threads + Wait + Sync>(
     rt: &R,
 ) -> Result<()> {
-    show_cases(
-        rt,
-        "workers/threads.txt",
-        |_, line| Ok(answer(rt, named(line).1)?),
-    )
+    let text = rt.text_of("workers/threads.txt")?;
+    for line in text.lines() {
+        if is_case(line) {
+            show_case(rt, line)?;
+        }
+    }
+    Ok(())
 }
 
-fn answer<R: CaseFiles + Device + AllocGlobal + Threads + Wait + Sync>(
+fn show_case<R: CaseFiles + Device + Print + AllocGlobal + Threads + Wait + Sync>(
+    rt: &R,
+    line: &str,
+) -> Result<()> {
+    let (name, case) = named(line);
+    let case = spelled(rt.alloc(), case)?;
+    let mut answer = Line::new(rt.alloc());
+    tell(rt, case.as_str(), &mut answer);
+    println!(rt; "{name}: {}", answer.finish()?)?;
+    Ok(())
+}
+
+// Writes the answer to a case.
+fn tell<R: CaseFiles + Device + AllocGlobal + Threads + Wait + Sync>(
     rt: &R,
     case: &str,
-) -> Result<String, AllocError> {
-    let alloc = rt.alloc();
-    let (gate, job) = case.split_once("; ").unwrap_or((case, ""));
+    line: &mut Line,
+) {
+    let (gate, job) = halves(case, "; ");
     match job_in(rt, job) {
-        Ok(Ok(job)) => ran(rt, alloc, gate, &job),
-        Ok(Err(fault)) => fault_told(alloc, fault),
-        Err(error) => format!(in alloc; "{error}"),
+        Ok(Ok(job)) => tell_job(rt, rt.alloc(), gate, &job, line),
+        Ok(Err(fault)) => tell_fault(fault, line),
+        Err(error) => line.show(&error),
     }
 }
 
@@ -111,28 +127,30 @@ impl End {
     }
 
     // Writes the word with the counts of the report.
-    fn counted(self, alloc: Global, before: &str) -> Result<String, AllocError> {
-        let word = self.word();
+    fn tell(self, line: &mut Line) {
+        line.put(self.word());
         match self {
             End::Alike(counts) | End::Otherwise(counts) => {
-                let (epoch, missed, restarts) = (counts.epoch, counts.missed, counts.restarts);
-                format!(in alloc;
-                    "{before}{word}, epoch {epoch} missed {missed} restarts {restarts}"
-                )
+                line.add(", epoch ", &counts.epoch);
+                line.add(" missed ", &counts.missed);
+                line.add(" restarts ", &counts.restarts);
             }
-            _ => format!(in alloc; "{before}{word}"),
+            _ => {}
         }
     }
 }
 
-fn ran<R: Device + AllocGlobal + Threads + Wait + Sync>(
+fn tell_job<R: Device + AllocGlobal + Threads + Wait + Sync>(
     rt: &R,
     alloc: Global,
     gate: &str,
     job: &Job,
-) -> Result<String, AllocError> {
-    let plain = one_machine(rt, alloc, job)?;
-    ran_beside(rt, alloc, gate, job, &plain)
+    line: &mut Line,
+) {
+    match one_machine(rt, alloc, job) {
+        Ok(plain) => tell_beside(rt, alloc, gate, job, &plain, line),
+        Err(_) => line.cut(),
+    }
 }
 
 // What the words of a gate ask for.
@@ -175,24 +193,25 @@ fn asked_by(words: &str) -> Asked<'_> {
     }
 }
 
-fn ran_beside<R: Device + AllocGlobal + Threads + Wait + Sync>(
+fn tell_beside<R: Device + AllocGlobal + Threads + Wait + Sync>(
     rt: &R,
     alloc: Global,
     words: &str,
     job: &Job,
     plain: &JobEnd,
-) -> Result<String, AllocError> {
+    line: &mut Line,
+) {
     match asked_by(words) {
-        Asked::Holds => held(rt, alloc, job, plain),
-        Asked::Ticks => ticked(rt, alloc, job, plain),
-        Asked::Late => late(rt, alloc, job, plain),
-        Asked::Driven => driven(rt, alloc, job, plain).counted(alloc, ""),
-        Asked::Led => led(rt, alloc, job),
-        Asked::Losses => lost_in_turn(rt, alloc, job, plain),
-        Asked::Times(times, gate) => repeated(rt, alloc, job, gate, times, plain),
-        Asked::Watched(gate) => watched(rt, alloc, job, gate, plain),
-        Asked::Ends(gate) => ended_by(rt, alloc, job, gate, plain).counted(alloc, ""),
-        Asked::NoNumber => String::from_str(alloc, "no number"),
+        Asked::Holds => tell_held(rt, alloc, job, plain, line),
+        Asked::Ticks => line.put(ticked(rt, alloc, job, plain)),
+        Asked::Late => tell_late(rt, alloc, job, plain, line),
+        Asked::Driven => driven(rt, alloc, job, plain).tell(line),
+        Asked::Led => tell_led(rt, alloc, job, line),
+        Asked::Losses => tell_losses(rt, alloc, job, plain, line),
+        Asked::Times(times, gate) => tell_repeated(rt, alloc, job, gate, times, plain, line),
+        Asked::Watched(gate) => tell_watched(rt, alloc, job, gate, plain, line),
+        Asked::Ends(gate) => ended_by(rt, alloc, job, gate, plain).tell(line),
+        Asked::NoNumber => line.put("no number"),
     }
 }
 
@@ -247,48 +266,56 @@ fn ended_by<R: Device + AllocGlobal + Threads + Wait + Sync>(
 
 // Returns the gate that the words name. Nobody is lost if they name no worker.
 fn gate_of(words: &str) -> LossGate {
-    let (loss, again) = words.split_once(' ').unwrap_or((words, ""));
+    let (loss, again) = halves(words, " ");
     LossGate::new(Loss::read(loss), again == "again")
 }
 
-fn repeated<R: Device + AllocGlobal + Threads + Wait + Sync>(
+fn tell_repeated<R: Device + AllocGlobal + Threads + Wait + Sync>(
     rt: &R,
     alloc: Global,
     job: &Job,
     gate: &str,
     times: u32,
     plain: &JobEnd,
-) -> Result<String, AllocError> {
+    line: &mut Line,
+) {
     let mut alike = 0u32;
     for _ in 0..times {
         let end = ended_by(rt, alloc, job, gate, plain);
         alike = alike.saturating_add(u32::from(end.is_alike()));
     }
-    format!(in alloc; "{alike} of {times} alike")
+    line.show(&alike);
+    line.add(" of ", &times);
+    line.put(" alike");
 }
 
-fn held<R: Device + AllocGlobal + Threads + Wait + Sync>(
+fn tell_held<R: Device + AllocGlobal + Threads + Wait + Sync>(
     rt: &R,
     alloc: Global,
     job: &Job,
     plain: &JobEnd,
-) -> Result<String, AllocError> {
+    line: &mut Line,
+) {
     let gate = PlannedGate::new(Plan::Holds);
     let end = end_of(rt, alloc, job, &gate, plain);
-    format!(in alloc; "{}, {}", gate.how_met(), end.word())
+    line.put(gate.how_met());
+    line.put(", ");
+    line.put(end.word());
 }
 
 // Shows whether a lost worker has come back.
-fn watched<R: Device + AllocGlobal + Threads + Wait + Sync>(
+fn tell_watched<R: Device + AllocGlobal + Threads + Wait + Sync>(
     rt: &R,
     alloc: Global,
     job: &Job,
     words: &str,
     plain: &JobEnd,
-) -> Result<String, AllocError> {
+    line: &mut Line,
+) {
     let gate = WatchedGate::new(gate_of(words));
     let end = end_of(rt, alloc, job, &gate, plain);
-    format!(in alloc; "{}{}", came_word(gate.has_come_back()), end.word())
+    line.put(came_word(gate.has_come_back()));
+    line.put(end.word());
 }
 
 fn came_word(has_come_back: bool) -> &'static str {
@@ -300,71 +327,64 @@ fn came_word(has_come_back: bool) -> &'static str {
 }
 
 // Shows whether a worker has come back that was lost by its lease and then by its gate.
-fn late<R: Device + AllocGlobal + Threads + Wait + Sync>(
+fn tell_late<R: Device + AllocGlobal + Threads + Wait + Sync>(
     rt: &R,
     alloc: Global,
     job: &Job,
     plain: &JobEnd,
-) -> Result<String, AllocError> {
+    line: &mut Line,
+) {
     let gate = LateGate::new(job.settings().lease as u64);
     let end = end_of(rt, alloc, job, &gate, plain);
-    end.counted(alloc, came_word(gate.has_come_back()))
+    line.put(came_word(gate.has_come_back()));
+    end.tell(line);
 }
 
-// Shows whether a job ends alike, with no save missed, or without workers.
+// Returns whether a job ends alike, with no save missed, or without workers.
 fn ticked<R: Device + AllocGlobal + Threads + Wait + Sync>(
     rt: &R,
     alloc: Global,
     job: &Job,
     plain: &JobEnd,
-) -> Result<String, AllocError> {
+) -> &'static str {
     let gate = PlannedGate::new(Plan::Ticks);
-    let word = match end_of(rt, alloc, job, &gate, plain) {
+    match end_of(rt, alloc, job, &gate, plain) {
         End::Alike(counts) if counts.missed == 0 => "alike or no workers",
         End::NoWorkers => "alike or no workers",
         _ => "otherwise",
-    };
-    String::from_str(alloc, word)
+    }
 }
 
-fn led<R: Device + AllocGlobal + Threads + Wait + Sync>(
+fn tell_led<R: Device + AllocGlobal + Threads + Wait + Sync>(
     rt: &R,
     alloc: Global,
     job: &Job,
-) -> Result<String, AllocError> {
-    let mut words = Vec::new(alloc);
+    line: &mut Line,
+) {
+    let mut words = Line::new(alloc);
     match by_hand::led(rt, alloc, job, &mut words) {
-        Ok(()) => words.join(alloc, ", "),
-        Err(_) => String::from_str(alloc, "a fault"),
+        Ok(()) => line.append(&words),
+        Err(_) => line.put("a fault"),
     }
 }
 
 // Loses the worker that takes a part in a superstep, for each part in each superstep.
-fn lost_in_turn<R: Device + AllocGlobal + Threads + Wait + Sync>(
-    rt: &R,
-    alloc: Global,
-    job: &Job,
-    plain: &JobEnd,
-) -> Result<String, AllocError> {
-    let mut text = String::new(alloc);
-    tell_losses(rt, alloc, job, plain, &mut text)?;
-    Ok(text)
-}
-
 fn tell_losses<R: Device + AllocGlobal + Threads + Wait + Sync>(
     rt: &R,
     alloc: Global,
     job: &Job,
     plain: &JobEnd,
-    text: &mut String,
-) -> Result<(), AllocError> {
+    line: &mut Line,
+) {
     for superstep in 0..plain.superstep {
         for part in 0..job.settings().parts {
             let plan = Plan::Loses { superstep, part };
-            write!(text, "{} ", failing(rt, alloc, job, plan, plain))?;
+            line.show(&failing(rt, alloc, job, plan, plain));
+            line.put(" ");
         }
     }
-    write!(text, "of {CALLS} alike each")
+    line.add("of ", &CALLS);
+    line.put(" alike each");
 }
 
 // Counts the devices failing at one call with which a job ends alike.

@@ -8,7 +8,7 @@ use Rattle.superstep.specs.Job.{Meaning, Work}
 use Rattle.superstep.specs.PlainRun.{units_at}
 use Rattle.std.specs.Prelude.{Err, IfErr, Ok, Result}
 use Rattle.call_lines.specs.OutputLines.{ended_lines, job_lines}
-use Rattle.rollback.specs.declared.report.Report.{Report}
+use Rattle.book.specs.declared.report.Report.{Report}
 use Rattle.sources.specs.declared.fault.CommandFault.{CommandFault}
 use Rattle.event_loop.specs.JobAnswers.{IsRunFault}
 use Rattle.console.specs.Jobs.{AreEndLines, AreJobLines, IsFaultOfRun}

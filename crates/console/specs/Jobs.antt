@@ -5,7 +5,7 @@ use Rattle.std.specs.List.{range_with_len}
 use Rattle.superstep.specs.declared.ending.JobEnd.{JobEnd}
 use Rattle.superstep.specs.Job.{Meaning, Work}
 use Rattle.superstep.specs.PlainRun.{Answer, IsAnswer, units_at}
-use Rattle.rollback.specs.declared.report.Report.{Report}
+use Rattle.book.specs.declared.report.Report.{Report}
 use Rattle.event_loop.specs.JobAnswers.{IsRunFault}
 use Rattle.run_views.specs.declared.loss.Loss.{Loss}
 use Rattle.call_lines.specs.OutputLines.{ended_lines, job_lines}

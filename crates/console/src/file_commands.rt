@@ -15,7 +15,7 @@ ghost use Rattle.plain_commands.specs.Sheets.{asks_of_run, asks_sheets};
 
 use crate::explaining::explain_refusal;
 use crate::jobs::{resume, run};
-use checkpoint::{Device, FileKeep, MemoryKeep};
+use checkpoint::{Device, FileKeep, Folder, MemoryKeep};
 use conversions::{assemble_file, fit_file, import_file, print_file, upgrade_file};
 use line_text::{Output, WriteFailure};
 use plain_commands::{
@@ -59,7 +59,7 @@ use superstep::Job;
 /// `ok VERTICES EDGES`. What is shown in the view while a job runs, and the warnings of `run`, change no answer. Where a run is to
 /// be reported, what it did is noted, for `write_sheets`.
 pub fn command<F: Files, O: Output, V: View + Sync>(
-    rt: &(impl Wait + Threads + Sync + std::rt::Files + Device + AllocGlobal),
+    rt: &(impl Wait + Threads + Sync + Device + Folder + AllocGlobal),
     alloc: Global,
     request: Request<'_>,
     explains: bool,
@@ -93,7 +93,7 @@ pub fn command<F: Files, O: Output, V: View + Sync>(
 
 // What is told of a command.
 fn execute_request<'a, F: Files, V: View + Sync>(
-    rt: &(impl Wait + Threads + Sync + std::rt::Files + Device + AllocGlobal),
+    rt: &(impl Wait + Threads + Sync + Device + Folder + AllocGlobal),
     alloc: Global,
     request: Request<'a>,
     view: &V,
@@ -127,7 +127,7 @@ fn execute_request<'a, F: Files, V: View + Sync>(
 
 // Runs the job of the module in one file over the graph in another.
 fn run_files<'a, F: Files, V: View + Sync>(
-    rt: &(impl Wait + Threads + Sync + std::rt::Files + Device + AllocGlobal),
+    rt: &(impl Wait + Threads + Sync + Device + Folder + AllocGlobal),
     alloc: Global,
     asked: RunRequest<'a>,
     view: &V,
@@ -189,7 +189,7 @@ fn watch_of(alloc: Global, job: &Job, asked: RunRequest<'_>) -> Option<Watch>
 
 // Runs a job, its states kept in a folder where one is named, else in memory.
 fn run_kept<'a, F: Files, V: View + Sync>(
-    rt: &(impl Wait + Threads + Sync + std::rt::Files + Device + AllocGlobal),
+    rt: &(impl Wait + Threads + Sync + Device + Folder + AllocGlobal),
     alloc: Global,
     job: &Job,
     asked: RunRequest<'a>,

@@ -5,12 +5,12 @@ ghost use Rattle.sources.specs.Disk.{Stays};
 ghost use Rattle.console.specs.Jobs.{AreEndLines, AreJobLines, AreKeptLines, IsFaultOfRun};
 ghost use Rattle.call_lines.specs.OutputLines.{IfText};
 ghost use Rattle.plain_commands.specs.Notes.{NotesEnd, NotesFault, NotesOnly, HasNoted};
-ghost use Rattle.rollback.specs.Saving.{HasLeft};
+ghost use Rattle.book.specs.Saving.{HasLeft};
 ghost use Rattle.console.specs.inside.Answering.{AreLinesOfAnswer, IsFaultOfAnswer};
 
+use book::Report;
 use checkpoint::{Device, Keep};
 use plain_commands::{RunNotes, ended_text};
-use rollback::Report;
 use run_views::{RunGate, View, warn_of_missed};
 use sources::{CommandFault, Files};
 use std::alloc::Global;

@@ -7,11 +7,11 @@ use Rattle.control.specs.declared.job_status.DeviceResult.{DeviceResult}
 use Rattle.control.specs.declared.job_status.DeviceResult.TheVariants.{Failed, Good, NoMemory}
 use Rattle.control.specs.Events.{Heard, after_load, begun}
 use Rattle.control.specs.Machine.{Machine, opened, resumed}
-use Rattle.rollback.specs.Saving.{IsKeptStep, IsLoadResult, IsMadeAt, MayLoadOther}
-use Rattle.rollback.specs.Simulation.{IsCalmAt, NeverFails}
-use Rattle.rollback.specs.inside.Simulating.{HasSameCounts, LoadsMade}
-use Rattle.rollback.proofs.Keeps.{slicing_same}
-use Rattle.rollback.proofs.Simulated.{counts_both, counts_kept, counts_same, loads_made, never_more, some_of}
+use Rattle.book.specs.Saving.{IsKeptStep, IsLoadResult, IsMadeAt, MayLoadOther}
+use Rattle.book.specs.Calm.{IsCalmAt, NeverFails}
+use Rattle.book.specs.inside.Counts.{HasSameCounts, LoadsMade}
+use Rattle.book.proofs.Keeps.{slicing_same}
+use Rattle.book.proofs.Counts.{counts_both, counts_kept, counts_same, loads_made, never_more, some_of}
 use Rattle.event_loop.specs.JobAnswers.{LoadsMadeAt}
 use Rattle.event_loop.specs.Steps.{KeptAlong, Move, after, moved}
 

@@ -7,11 +7,11 @@ use Rattle.job_state.specs.declared.fault.Place.{Place}
 use Rattle.job_state.specs.declared.fault.Place.TheVariants as place
 use Rattle.control.specs.declared.job_status.JobStatus.{JobStatus}
 use Rattle.control.specs.declared.job_status.JobStatus.TheVariants.{Fault, Finished, Limit, Running}
-use Rattle.rollback.specs.declared.report.Report.{Report}
-use Rattle.rollback.specs.Book.{IsQuietAt, IsReport}
+use Rattle.book.specs.declared.report.Report.{Report}
+use Rattle.book.specs.Book.{IsQuietAt, IsReport}
 use Rattle.checkpoint.specs.Keep.{LoadsNothingElse}
-use Rattle.rollback.specs.Saving.{IsKeptStep, IsLoadResult, KeepsFor}
-use Rattle.rollback.specs.Simulation.{NeverFails}
+use Rattle.book.specs.Saving.{IsKeptStep, IsLoadResult, KeepsFor}
+use Rattle.book.specs.Calm.{NeverFails}
 use Rattle.control.specs.Events.{Heard, begun}
 use Rattle.control.specs.Machine.{Machine, has_answer, opened}
 use Rattle.event_loop.specs.JobAnswers.{HasSpent, IsAnswerAt, IsCalmReport, IsDriveFault, IsOpened, IsRunFault, IsTold, EndedOver, EndedOverKeep, EndedOverOwn, LoadsMadeAt, RanFrom, RanFromKeep, RanFromOver, RanOn, RanOnOver, RanOnOwn, WhereEnded, WhereOpened, WhereRefused, WhereRun, has_ended}

@@ -14,9 +14,9 @@ use Rattle.control.specs.Events.{Heard, accepted, reply_of}
 use Rattle.control.specs.Events.Stamp.{LostBy}
 use Rattle.events.specs.Events.{stamp_of}
 use Rattle.control.specs.Stamps.{task_out}
-use Rattle.rollback.specs.Saving.{IsKeptStep, KeepsFor}
-use Rattle.rollback.proofs.Keeps.{keeps_same}
-use Rattle.rollback.proofs.Simulated.{kept_still}
+use Rattle.book.specs.Saving.{IsKeptStep, KeepsFor}
+use Rattle.book.proofs.Keeps.{keeps_same}
+use Rattle.book.proofs.Counts.{kept_still}
 use Rattle.channels.specs.Orders.{at, tasks_in, with_order}
 use Rattle.event_loop.specs.JobAnswers.{IsLeftBy}
 use Rattle.event_loop.specs.Steps.{AreMoves, IsMove, KeptAlong, Move, Steps, after, event_of, events, hand_of, hands, moved}

@@ -8,12 +8,12 @@ use Rattle.job_state.specs.declared.fault.Place.{Place}
 use Rattle.job_state.specs.declared.fault.Place.TheVariants as place
 use Rattle.control.specs.declared.job_status.JobStatus.{JobStatus}
 use Rattle.control.specs.declared.job_status.JobStatus.TheVariants.{Fault, Finished, Limit, Running}
-use Rattle.rollback.specs.declared.report.Report.{Report}
-use Rattle.rollback.specs.Book.{IsQuietAt, IsReport}
+use Rattle.book.specs.declared.report.Report.{Report}
+use Rattle.book.specs.Book.{IsQuietAt, IsReport}
 use Rattle.control.specs.Events.{Heard, begun}
 use Rattle.control.specs.Machine.{Machine, opened}
-use Rattle.rollback.specs.Saving.{IsKeptStep, IsLoadResult, IsMadeAt, KeepsFor}
-use Rattle.rollback.specs.Simulation.{IsCalmAt, NeverFails}
+use Rattle.book.specs.Saving.{IsKeptStep, IsLoadResult, IsMadeAt, KeepsFor}
+use Rattle.book.specs.Calm.{IsCalmAt, NeverFails}
 use Rattle.channels.specs.Orders.{at}
 use Rattle.worker_loops.specs.Returns.{IsWorkOn, events_by}
 use Rattle.event_loop.specs.Steps.{AreMoves, KeptAlong, Move, after, events, hands}

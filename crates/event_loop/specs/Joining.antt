@@ -5,8 +5,8 @@ use Rattle.job_state.specs.declared.fault.JobFault.{JobFault}
 use Rattle.channels.specs.declared.order.Order.{Order}
 use Rattle.control.specs.declared.answer.Answer.{Answer}
 use Rattle.control.specs.declared.answer.Answer.TheVariants.{Advanced, Ended, RolledBack, Stale, Taken}
-use Rattle.rollback.specs.declared.report.Report.{Report}
-use Rattle.rollback.specs.Book.{IsQuietAt}
+use Rattle.book.specs.declared.report.Report.{Report}
+use Rattle.book.specs.Book.{IsQuietAt}
 use Rattle.control.specs.Events.{Heard, Stamp, accepted, begun, reply_of}
 use Rattle.control.specs.Events.Stamp.{DoneBy, FailedBy, JoinedBy, LostBy, Ticked}
 use Rattle.control.specs.Machine.{Machine, opened}

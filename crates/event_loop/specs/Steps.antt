@@ -4,7 +4,7 @@ use Rattle.superstep.specs.Job.{Work}
 use Rattle.control.specs.declared.control.Out.{Out}
 use Rattle.control.specs.Machine.{Machine, hand, handed, task_of}
 use Rattle.control.specs.Events.{Heard, Stamp, accepted}
-use Rattle.rollback.specs.Book.{IsQuietAt}
+use Rattle.book.specs.Book.{IsQuietAt}
 use Rattle.channels.specs.Orders.{at}
 use Rattle.worker_loops.specs.Numbers.{outs_in, stamps_in}
 use Rattle.hub_ends.specs.declared.message.Message.{Message}

@@ -1,7 +1,7 @@
 //! The event loop, which drives a job to its end.
 
 ghost use Rattle.std.specs.Prelude.{◌≡◌, ◌<◌, ◌+◌, ◌∷◌, false, true, map, vec_len, ℕ, IfErr, IfOk, OnErr, OnOk};
-ghost use Rattle.rollback.specs.Saving.{IsKeptStep, KeepsFor};
+ghost use Rattle.book.specs.Saving.{IsKeptStep, KeepsFor};
 ghost use Rattle.control.specs.Machine.{is_running};
 ghost use Rattle.event_loop.specs.JobAnswers.{HasSpent, IsAnswerAt, IsDriveFault, IsLeftBy, RanFromOver, WhereEnded};
 ghost use Rattle.event_loop.specs.Steps.{Steps};
@@ -11,10 +11,10 @@ ghost use Rattle.event_loop.specs.inside.Told.{IsToldNext, StepsDue, StepsTold, 
 ghost use Rattle.hub_ends.specs.Hub.{HasByes, IsSameHub, IsStopped, IsUnused, handed, received, staff};
 ghost use Rattle.channels.specs.Orders.{at, tasks_in};
 
+use book::{Answer, Book, Event, JobStatus, Report};
 use channels::Closed;
 use checkpoint::{Device, Keep};
 use hub_ends::{CoordinatorEnds, Message, VerdictSender};
-use rollback::{Answer, Book, Event, JobStatus, Report};
 use std::sync::Wait;
 use std::thread::Threads;
 use superstep::{JobFault, Origin};

@@ -1,5 +1,5 @@
 -- A text that is cut at line ends, and what was collected of its pieces.
-use Rattle.std.proofs.Common.{inl, inr, ◌≡◌, ℕ, ◌+◌, ◌<◌, ◌≤◌, Bool, true, List, [], ◌∷◌, ◌++◌, Option, Some, None, Result, Ok, Err, length, take, drop, get_or, map, refl, ap, sym, ◌∙◌, arith, eqb, append-nil, append_assoc, get_or-drop, length-append, length-drop}
+use Rattle.std.proofs.Common.{inl, inr, ◌≡◌, ℕ, ◌+◌, ◌<◌, ◌≤◌, Bool, true, List, [], ◌∷◌, ◌++◌, Option, Some, None, Result, Ok, Err, length, take, drop, get_or, map, refl, ap, sym, ◌∙◌, arith, eqb, append-nil, append_assoc, length-append}
 use Rattle.std.specs.Prelude.{IfOk, IfSome, sum_by, vec_len}
 use Rattle.std.specs.Borrow.{Bor}
 use Rattle.std.specs.List.{All, flat_map, onto_first, slice_split}
@@ -73,11 +73,6 @@ cut_lines text place below feed =
     let apart : lines text ≡ lines (take (place + 1) text) ++ lines (drop (place + 1) text) =
     ap lines whole ∙ lines_apart (take place text) (drop (place + 1) text) ∙ ap (λ bs. lines bs ++ lines (drop (place + 1) text)) (sym first) in
     ap (map line_of) apart ∙ map-append line_of (lines (take (place + 1) text)) (lines (drop (place + 1) text))
-
-pub feed_in : (bytes rest : List ℕ) (place feed : ℕ) → rest ≡ drop place bytes → feed < length rest → get_or rest feed 0 ≡ 10
-    → (place + feed < length bytes) × (get_or bytes (place + feed) 0 ≡ 10)
-feed_in bytes rest place feed behind short is =
-    (omega (arith, ap length behind, length-drop place bytes), sym (get_or-drop place bytes feed 0) ∙ ap (λ bs. get_or bs feed 0) (sym behind) ∙ is)
 
 pub cut_apart : (text : List ℕ) (place : ℕ) (cut : Option (Bor (List ℕ) × Bor (List ℕ))) → lines_of text ≡ lines_of (take place text) ++ lines_of (drop place text)
     → IfSome cut (λ x. x.0.now ≡ take place text) → IfSome cut (λ x. x.1.now ≡ drop place text)

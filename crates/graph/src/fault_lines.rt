@@ -10,10 +10,12 @@ use std::alloc::{AllocError, Global};
 /// Returns the line of the edge that has this many edges before it, or 0 where there is none.
 pub fn line_of_edge(text: &str, before: usize) -> usize {
     let mut left = before;
-    for (index, line) in text.lines().enumerate() {
+    let mut number = 0usize;
+    for line in text.lines() {
+        number = number.saturating_add(1);
         if let Line::Edge(..) = line_of(line) {
             if left == 0 {
-                return index + 1;
+                return number;
             }
             left -= 1;
         }
@@ -45,12 +47,21 @@ pub fn first_duplicate(
     let mut declared = declared_before(alloc, text, before)?;
     declared.sort_unstable();
     let mut first: Option<usize> = None;
-    for pair in declared.windows(2) {
-        if pair[0].0 == pair[1].0 && first.is_none_or(|line| pair[1].1 < line) {
-            first = Some(pair[1].1);
+    for index in 1..declared.len() {
+        let (id, line) = declared[index];
+        if declared[index - 1].0 == id {
+            first = Some(earlier(first, line));
         }
     }
     Ok(first)
+}
+
+// Returns the first of two lines, of which there may be only one.
+fn earlier(first: Option<usize>, line: usize) -> usize {
+    match first {
+        Some(first) => first.min(line),
+        None => line,
+    }
 }
 
 // Lists the ids that earlier lines declare, each with its line.
@@ -60,12 +71,14 @@ fn declared_before(
     before: usize,
 ) -> Result<Vec<(u64, usize)>, AllocError> {
     let mut declared = Vec::new(alloc);
-    for (index, line) in text.lines().enumerate() {
-        if index + 1 >= before {
+    let mut number = 0usize;
+    for line in text.lines() {
+        number = number.saturating_add(1);
+        if number >= before {
             break;
         }
         if let Line::Vertex(id, _) = line_of(line) {
-            declared.push((id, index + 1))?;
+            declared.push((id, number))?;
         }
     }
     Ok(declared)

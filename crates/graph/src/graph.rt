@@ -182,7 +182,7 @@ fn copied(alloc: Global, vertices: &[Vertex]) -> Result<Vec<Vertex>, AllocError>
     let mut copies = Vec::with_capacity(alloc, vertices.len())?;
     for vertex in vertices {
         let copy = copy_of(alloc, vertex)?;
-        copies.push(copy)?;
+        copies.push_reserved(copy);
     }
     Ok(copies)
 }

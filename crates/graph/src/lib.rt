@@ -20,7 +20,7 @@ mod vertex;
 pub use fault::{GraphFault, PrintFault};
 pub use graph::Graph;
 pub use laws::means_one_graph;
-pub use partition::{Identified, cut_by_id, merge_by_id, part_of, sort_by_id};
+pub use partition::{Identified, cut_by_id, ids_of, merge_by_id, part_of, sort_by_id};
 pub use parts::{Part, join, split};
 pub use print::{print_values, push_value_line};
 pub use vertex::{Edge, MAX_EDGES, MAX_VERTICES, Vertex};

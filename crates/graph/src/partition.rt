@@ -16,6 +16,14 @@ pub trait Identified: Drop {
         ensures { result ≡ id self.now };
 }
 
+impl<'a, T: Identified> Identified for &'a T {
+    ghost id = { λ element. T.id element.now };
+
+    fn id(&self) -> u64 {
+        (**self).id()
+    }
+}
+
 /// Returns the part of an id, which is the id modulo the number of parts.
 pub fn part_of(id: u64, parts: u32) -> u32
     requires { 0 < parts }
@@ -53,9 +61,20 @@ fn empty_parts<T: Identified>(
 {
     let mut parts = Vec::with_capacity(alloc, count as usize)?;
     for part in 0..count {
-        parts.push(Vec::with_capacity(alloc, room)?)?;
+        parts.push_reserved(Vec::with_capacity(alloc, room)?);
     }
     Ok(parts)
+}
+
+/// Lists the ids of the elements, in their order.
+pub fn ids_of<T: Identified>(alloc: Global, elements: &[T]) -> Result<Vec<u64>, AllocError>
+    ensures { IfOk result (λ ids. ids.items ≡ map T.id elements.now) }
+{
+    let mut ids = Vec::with_capacity(alloc, elements.len())?;
+    for element in elements {
+        ids.push_reserved(element.id());
+    }
+    Ok(ids)
 }
 
 /// Sorts the elements by id. It allocates nothing.

@@ -100,9 +100,12 @@ fn line_feed_from(bytes: &[u8], place: usize) -> Option<usize>
     ensures { IfSome result (λ feed.
         (feed < length bytes.now) × (slice_index bytes.now feed ≡ 10)) }
 {
-    let (_, rest) = bytes.split_at_checked(place)?;
-    let feed = rest.iter().position(|byte| *byte == b'\n')?;
-    Some(place + feed)
+    for index in place..bytes.len() {
+        if bytes[index] == b'\n' {
+            return Some(index);
+        }
+    }
+    None
 }
 
 // Collects the vertices and edges of each piece in a thread of its own.
@@ -141,17 +144,22 @@ fn together(alloc: Global, pieces: Vec<Collected>) -> Option<Collected>
 fn vertex_count(pieces: &[Collected]) -> u128
     ensures { result ≡ sum_by (λ piece. vec_len piece.vertices) pieces.now }
 {
-    pieces
-        .iter()
-        .map(|piece| piece.vertices.len() as u128)
-        .sum()
+    let mut count = 0u128;
+    for piece in pieces {
+        count += piece.vertices.len() as u128;
+    }
+    count
 }
 
 // Counts the edges of all pieces.
 fn edge_count(pieces: &[Collected]) -> u128
     ensures { result ≡ sum_by (λ piece. vec_len piece.edges) pieces.now }
 {
-    pieces.iter().map(|piece| piece.edges.len() as u128).sum()
+    let mut count = 0u128;
+    for piece in pieces {
+        count += piece.edges.len() as u128;
+    }
+    count
 }
 
 // Appends what was collected of pieces, in their order. Room for this number of vertices and of edges is made at the start.

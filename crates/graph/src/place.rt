@@ -9,6 +9,7 @@ ghost use Rattle.graph.specs.inside.Placed.{HasEnds, HaveEnds, IsFirstUnknown, I
 
 use crate::fault::GraphFault;
 use crate::fault_lines::line_of_edge;
+use crate::partition::ids_of;
 use crate::vertex::{Edge, Vertex};
 use std::alloc::{AllocError, Global};
 
@@ -45,7 +46,7 @@ fn unknown_edge(
     ensures { IfOk result (λ found. MatchOption found (HaveEnds vertices.now edges.now)
         (IsFirstUnknown (ids (entries_of vertices.now)) edges.now)) }
 {
-    let ids = ids_of(alloc, vertices)?;
+    let ids = vertex_ids(alloc, vertices)?;
     Ok(first_unknown(&ids, edges))
 }
 
@@ -70,7 +71,7 @@ pub fn place_own(alloc: Global, edges: &[Edge], vertices: &mut [Vertex]) -> Resu
     requires { IsStrictlyIncreasing (ids (entries_of vertices.old)) }
     ensures { OnOk result (PlacesEdges edges.now vertices.old vertices.new) }
 {
-    let ids = ids_of(alloc, vertices)?;
+    let ids = vertex_ids(alloc, vertices)?;
     make_room(alloc, &ids, edges, vertices)?;
     place_among(&ids, edges, vertices)
 }
@@ -139,10 +140,10 @@ fn counts_of(alloc: Global, ids: &[u64], edges: &[Edge]) -> Result<Vec<usize>, A
 }
 
 /// Lists the ids of vertices, in their order.
-pub fn ids_of(alloc: Global, vertices: &[Vertex]) -> Result<Vec<u64>, AllocError>
+pub fn vertex_ids(alloc: Global, vertices: &[Vertex]) -> Result<Vec<u64>, AllocError>
     ensures { IfOk result (λ found. found.items ≡ ids (entries_of vertices.now)) }
 {
-    vertices.iter().map(|vertex| vertex.id).collect(alloc)
+    ids_of(alloc, vertices)
 }
 
 // Finds the place of an edge's source, if both ends are among these ids, which rise. The place of the last edge's source

@@ -9,7 +9,7 @@ ghost use Rattle.graph.specs.Entry.{entries_of, ids};
 ghost use Rattle.graph.specs.inside.Placed.{HasEnds, HaveEnds, PlacesEdges};
 
 use crate::fault::GraphFault;
-use crate::place::{first_unknown, ids_of, place_edges, place_own};
+use crate::place::{first_unknown, place_edges, place_own, vertex_ids};
 use crate::vertex::{Edge, Vertex};
 use rayon::current_num_threads;
 use rayon::prelude::*;
@@ -69,7 +69,7 @@ fn have_ends(
     requires { IsStrictlyIncreasing (ids (entries_of vertices.now)) }
     ensures { IfOk result (λ have. IsTrue have ↔ HaveEnds vertices.now edges.now) }
 {
-    let ids = ids_of(alloc, vertices)?;
+    let ids = vertex_ids(alloc, vertices)?;
     Ok(are_among(rt, &ids, edges))
 }
 

@@ -1,6 +1,7 @@
 -- Letters by share: what goes to an id is among the letters of its share's targets.
-use Rattle.std.proofs.Common.{◌≡◌, ◌+◌, ◌<◌, ℕ, ℤ, Bool, true, false, List, [], ◌∷◌, ◌++◌, map, filter, take, get_or, length, sum_by, vec_items, vec_len, arith, refl, sym, ap, ◌∙◌, cond, length-append, Global}
+use Rattle.std.proofs.Common.{◌≡◌, ◌+◌, ◌<◌, ℕ, ℤ, Bool, true, false, List, [], ◌∷◌, ◌++◌, map, filter, take, get_or, length, sum_by, vec_items, vec_len, arith, refl, sym, ap, subst, ◌∙◌, cond, length-append, Global}
 use Rattle.rayon.proofs.ListFacts.{AllZip-append}
+use Rattle.std.proofs.lemmas.List.{take_more}
 use Rattle.std.proofs.lemmas.List.Elements.{All-filter, All-from_recursion, filter-append, recursion_from_All}
 use Rattle.std.proofs.lemmas.List.Sums.{sum_by-cons}
 use Rattle.std.specs.List.{AllByRecursion, AllZip, IsDistinct, flat_map}
@@ -17,6 +18,7 @@ use Rattle.inbox.specs.Merging.{are_one, all_of, IsBySource, inboxes_of, dropped
 use Rattle.inbox.specs.inside.Filing.{AreAllFiled, AreInBlocks, AreSomeOf, AreWithin, IsFiled, IsMadeFrom, IsMadeOf}
 use Rattle.inbox.specs.inside.Shares.{has, goes_into, parts_of, AreDelivered, ArePutIn, IsDelivered, IsInboxIn, IsPutIn, inboxes_in}
 use Rattle.inbox.specs.inside.Targets.{IsByTarget, target_cmp}
+use Rattle.inbox.proofs.Concatenation.{each_append}
 use Rattle.inbox.proofs.Counting.{all_of_more, delivered_or_dropped, delivered_to_all, dropped_of_none}
 use Rattle.inbox.proofs.InOrder.{in_order}
 use Rattle.inbox.proofs.Kept.{same_in_order, same_letters}
@@ -32,6 +34,13 @@ unfolding IsDistinct
 distinct_filter e p [] apart = tt
 distinct_filter e p (x ∷ xs) apart =
     distinct_cond e (p x) x (filter p xs) (recursion_from_All _ _ (All-filter p (λ y. e x y ≡ false) xs (All-from_recursion _ _ apart.0))) (distinct_filter e p xs apart.1)
+
+-- what holds of each element of the front of a list, and of the next one
+pub each_more : {X : Type 0} (P : X → Type 0) (xs : List X) (i : ℕ) (x : X) → i < length xs → x ≡ get_or xs i x → AllByRecursion P (take i xs) → P x → AllByRecursion P (take (i + 1) xs)
+each_more P xs i x inside is all own = subst (AllByRecursion P) (sym (take_more xs i x inside)) (each_append P (take i xs) (get_or xs i x ∷ []) all (subst P is own, tt))
+
+pub each_at : {X : Type 0} (P : X → Type 0) (xs : List X) (i : ℕ) (x : X) → i < length xs → x ≡ get_or xs i x → AllByRecursion P xs → P x
+each_at P xs i x inside is all = subst P (sym is) (All-from_recursion P xs all i x inside)
 
 -- the letters of one more list
 pub filtered_more : {Z : Type 0} (p : Letter → Bool) (lists : List (Vec Letter Z)) (i : ℕ) (list : Vec Letter Z) (before after : List Letter) → i < length lists → list ≡ get_or lists i list → before ≡ filter p (all_of (take i lists)) → after ≡ before ++ filter p list.items → after ≡ filter p (all_of (take (i + 1) lists))

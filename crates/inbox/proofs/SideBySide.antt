@@ -1,5 +1,5 @@
 -- Letters to one id lie side by side among letters by target.
-use Rattle.std.proofs.Common.{◌≡◌, ◌+◌, ◌≤◌, ◌<◌, ◌-◌, ℕ, zero, suc, ℤ, pos, Bool, true, false, cond, List, [], ◌∷◌, ◌++◌, All, length, take, drop, filter, take_while, get_or, arith, inl, inr, refl, sym, ap, ◌∙◌, length-drop}
+use Rattle.std.proofs.Common.{◌≡◌, ◌+◌, ◌≤◌, ◌<◌, ◌-◌, ℕ, suc, ℤ, pos, Bool, true, false, cond, List, [], ◌∷◌, ◌++◌, All, length, take, drop, filter, take_while, get_or, arith, inl, inr, refl, sym, ap, ◌∙◌, length-drop}
 use Rattle.std.proofs.lemmas.Bool.{cases_eq, cases_lt, both_ways, false_from_ne_true}
 use Rattle.std.proofs.lemmas.Int.{ints}
 use Rattle.std.proofs.lemmas.List.{get_or-take, get_or-drop, length-take-le, take-append-drop}
@@ -70,14 +70,8 @@ module _ {X : Type 0} (p : X → Bool) where
   partitioned_back xs n part = λ i j d le inside is.
       rw get_or-drop (part (n + i) (n + j) d (omega arith) (omega (arith, length-drop n xs)) (rw get_or-drop at is))
 
-  pub prefix_of_window : (n : ℕ) (xs : List X) → prefix_len p (take n xs) < n → prefix_len p (take n xs) ≡ prefix_len p xs
-  prefix_of_window zero xs less = absurd (omega arith)
-  prefix_of_window (suc n) [] less = refl
-  prefix_of_window (suc n) (x ∷ xs) less = by (p x) (prefix_of_window n xs) less
-    where
-      by : (b : Bool) → (prefix_len p (take n xs) < n → prefix_len p (take n xs) ≡ prefix_len p xs) → cond b (1 + prefix_len p (take n xs)) 0 < suc n → cond b (1 + prefix_len p (take n xs)) 0 ≡ cond b (1 + prefix_len p xs) 0
-      by true same less = ap (λ k. 1 + k) (same (omega arith))
-      by false same less = refl
+abbrev pub no_letter : Letter
+no_letter = record { to = pos 0; from = 0; seq = 0; value = pos 0 }
 
 below_falls : (z : ℤ) (a b : Letter) → target_cmp a b ≡ Less → int_lt b.to z ≡ true → int_lt a.to z ≡ true
 below_falls z a b less is = grind (arith, ints)

@@ -1,7 +1,7 @@
-ghost use Rattle.std.specs.Prelude.{◌≡◌, ◌+◌, ◌≤◌, ◌<◌, ◌^◌, ℕ, int_lt, pos, true, false, List, map, filter, length, nat_eq, sum_by, vec_items, vec_len, IfOk, IfSome};
+ghost use Rattle.std.specs.Prelude.{◌≡◌, ◌+◌, ◌≤◌, ◌<◌, ◌^◌, ℕ, int_lt, pos, true, false, List, map, filter, length, nat_eq, slice_index_or, sum_by, vec_items, vec_len, IfOk, IfSome};
 ghost use Rattle.std.specs.Global.{Vec as AnyVec};
 ghost use Rattle.std.specs.List.{AllZip, IsDistinct};
-ghost use Rattle.std.specs.List.Sorted.{IsStrictlySortedBy, IsPartitionPoint};
+ghost use Rattle.std.specs.List.Sorted.{IsStrictlySortedBy, IsPartitionPoint, IsPartitionedBy};
 ghost use Rattle.inbox.specs.declared.letters.Letter.{Letter as AnyLetter};
 ghost use Rattle.inbox.specs.Merging.{are_one, goes_to, all_of, sent_in, IsBySource, inboxes_of, dropped_of};
 ghost use Rattle.inbox.specs.inside.Mail.{letters_in};
@@ -275,7 +275,7 @@ fn made_parts(
     let mut all = Vec::with_capacity(alloc, parts.len())?;
     for part in parts {
         let inboxes = made_part(rt, alloc, part)?;
-        all.push(counted(inboxes))?;
+        all.push_reserved(counted(inboxes));
     }
     Ok(all)
 }
@@ -290,7 +290,12 @@ fn counted(inboxes: Vec<Inbox>) -> Delivered
 
 // Checks that the ids of each part rise by one gap.
 fn are_even(parts: &[Vec<u64>]) -> bool {
-    parts.iter().all(|ids| Grid::of(ids).is_even(ids))
+    for ids in parts {
+        if !Grid::of(ids).is_even(ids) {
+            return false;
+        }
+    }
+    true
 }
 
 // Makes the inboxes of each part from letters sorted by target, by looking up the letters of each id.
@@ -305,7 +310,7 @@ fn put_to_parts(
     let mut all = Vec::with_capacity(alloc, parts.len())?;
     for ids in parts {
         let delivered = put_to(rt, alloc, letters, ids)?;
-        all.push(delivered)?;
+        all.push_reserved(delivered);
     }
     Ok(all)
 }
@@ -426,14 +431,26 @@ fn run_to<'a>(letters: &'a [Letter], near: &mut usize, id: u64) -> &'a [Letter]
 {
     let start = start_from(letters, *near, id);
     let rest = &letters[start..];
-
-    // Few letters go to most ids, so looking at each costs less than a second search.
-    let count = rest
-        .iter()
-        .take_while(|letter| i128::from(letter.to) == i128::from(id))
-        .count();
+    let count = count_to(rest, id);
     *near = start + count;
     &rest[..count]
+}
+
+// Counts the letters at the start that go to this id. Few letters go to most ids, so looking at each costs less than a second
+// search.
+fn count_to(letters: &[Letter], id: u64) -> usize
+    ensures bound { result ≤ length letters.now }
+    ensures own { (k : ℕ) (d : AnyLetter) → k < result
+        → goes_to (slice_index_or letters.now k d) id ≡ true }
+    ensures next { (d : AnyLetter) → result < length letters.now
+        → goes_to (slice_index_or letters.now result d) id ≡ false }
+{
+    for index in 0..letters.len() {
+        if i128::from(letters[index].to) != i128::from(id) {
+            return index;
+        }
+    }
+    letters.len()
 }
 
 // Checks whether a letter goes to a target below this id.
@@ -455,18 +472,41 @@ fn start_from(letters: &[Letter], near: usize, id: u64) -> usize
         (λ letter. int_lt letter.to (pos id) ≡ false) letters.now result }
 {
     if near == 0 || near > letters.len() || !goes_below(&letters[near - 1], id) {
-        return letters.partition_point(|letter| goes_below(letter, id));
+        return first_from(letters, id);
     }
     let rest = &letters[near..];
-    let ahead = rest
-        .iter()
-        .take(FEW)
-        .take_while(|letter| goes_below(letter, id))
-        .count();
+    let ahead = few_below(rest, id);
     if ahead < FEW {
         return near + ahead;
     }
-    near + rest.partition_point(|letter| goes_below(letter, id))
+    near + first_from(rest, id)
+}
+
+// Finds the first letter that does not go below this id, where those that do come first.
+fn first_from(letters: &[Letter], id: u64) -> usize
+    ensures bound { result ≤ length letters.now }
+    ensures found { IsPartitionedBy (λ letter. int_lt letter.to (pos id)) letters.now
+        → IsPartitionPoint (λ letter. int_lt letter.to (pos id) ≡ true)
+        (λ letter. int_lt letter.to (pos id) ≡ false) letters.now result }
+{
+    letters.partition_point(|letter| goes_below(letter, id))
+}
+
+// Counts the letters at the start that go below this id, up to `FEW`.
+fn few_below(letters: &[Letter], id: u64) -> usize
+    ensures bound { result ≤ length letters.now }
+    ensures below { (k : ℕ) (d : AnyLetter) → k < result
+        → int_lt (slice_index_or letters.now k d).to (pos id) ≡ true }
+    ensures next { (d : AnyLetter) → result < 32 → result < length letters.now
+        → int_lt (slice_index_or letters.now result d).to (pos id) ≡ false }
+{
+    let few = letters.len().min(FEW);
+    for index in 0..few {
+        if !goes_below(&letters[index], id) {
+            return index;
+        }
+    }
+    few
 }
 
 // Concatenates the parts of all shares.
@@ -513,15 +553,20 @@ fn delivered_count(parts: &[Delivered]) -> u128
     requires { sum_by (λ part. part.count) parts.now < 2 ^ 128 }
     ensures { result ≡ sum_by (λ part. part.count) parts.now }
 {
-    parts.iter().map(|part| part.count).sum()
+    let mut count = 0u128;
+    for part in parts {
+        count += part.count;
+    }
+    count
 }
 
 // Counts the messages in these inboxes.
 fn message_count(inboxes: &[Inbox]) -> u128
     ensures { result ≡ sum_by (λ inbox. length inbox) inboxes.now }
 {
-    inboxes
-        .iter()
-        .map(|inbox| inbox.as_slice().len() as u128)
-        .sum()
+    let mut count = 0u128;
+    for inbox in inboxes {
+        count += inbox.as_slice().len() as u128;
+    }
+    count
 }

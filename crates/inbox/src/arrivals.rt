@@ -66,7 +66,7 @@ fn arrivals_in_all(
     let mut parts = Vec::with_capacity(alloc, ids.len())?;
     for part in ids {
         let arrivals = arrivals_in(alloc, letters, part)?;
-        parts.push(arrivals)?;
+        parts.push_reserved(arrivals);
     }
     Ok(parts)
 }
@@ -143,15 +143,20 @@ fn message_count(parts: &[Vec<Arrival>]) -> u128
     ensures { result
         ≡ sum_by (λ part. sum_by (λ arrival. length arrival.inbox) part.items) parts.now }
 {
-    parts.iter().map(|part| messages_in(part)).sum()
+    let mut count = 0u128;
+    for part in parts {
+        count += messages_in(part);
+    }
+    count
 }
 
 // Counts the messages to one part.
 fn messages_in(arrivals: &[Arrival]) -> u128
     ensures { result ≡ sum_by (λ arrival. length arrival.inbox) arrivals.now }
 {
-    arrivals
-        .iter()
-        .map(|arrival| arrival.inbox.as_slice().len() as u128)
-        .sum()
+    let mut count = 0u128;
+    for arrival in arrivals {
+        count += arrival.inbox.as_slice().len() as u128;
+    }
+    count
 }

@@ -184,20 +184,22 @@ fn empty_with_room(alloc: Global, count: usize, slips: &Slips) -> Result<Vec<Inb
 {
     let rooms = counts_of(alloc, count, slips)?;
     let mut inboxes = Vec::with_capacity(alloc, count)?;
-    for place in 0..count {
-        let room = rooms.get(place).copied().unwrap_or(0);
-        let inbox = Inbox::with_capacity(alloc, room)?;
+    for room in &rooms {
+        let inbox = Inbox::with_capacity(alloc, *room)?;
         inboxes.push(inbox)?;
     }
     Ok(inboxes)
 }
 
 // Counts the messages to each of `count` ids.
-fn counts_of(alloc: Global, count: usize, slips: &Slips) -> Result<Vec<usize>, AllocError> {
+fn counts_of(alloc: Global, count: usize, slips: &Slips) -> Result<Vec<usize>, AllocError>
+    ensures { IfOk result (λ counts. length counts.items ≡ count) }
+{
     let mut counts = Vec::from_elem(alloc, 0usize, count)?;
     for index in 0..slips.len() {
-        if let Some(count) = counts.get_mut(usize::from(slips.at(index).place)) {
-            *count = count.saturating_add(1);
+        let place = usize::from(slips.at(index).place);
+        if place < count {
+            counts[place] = counts[place].saturating_add(1);
         }
     }
     Ok(counts)

@@ -37,7 +37,7 @@ pub fn filed_parts<'a>(
         let Some(part) = filed_part(alloc, mail, each, ids)? else {
             return Ok(None);
         };
-        filed.push(part)?;
+        filed.push_reserved(part);
     }
     Ok(Some(filed))
 }

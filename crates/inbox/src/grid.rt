@@ -33,8 +33,12 @@ impl Grid {
 
     // Checks that the gap between any two consecutive ids is the grid's.
     pub fn is_even(self, ids: &[u64]) -> bool {
-        ids.windows(2)
-            .all(|pair| pair[1].wrapping_sub(pair[0]) == self.gap)
+        for index in 1..ids.len() {
+            if ids[index].wrapping_sub(ids[index - 1]) != self.gap {
+                return false;
+            }
+        }
+        true
     }
 
     // Returns the spot of the target, or `None` if the target is not in the grid. The grid has no last id.

@@ -1,4 +1,4 @@
-ghost use Rattle.std.specs.Prelude.{◌≡◌, filter, length, sum_by, vec_len, IfOk};
+ghost use Rattle.std.specs.Prelude.{◌≡◌, ◌++◌, filter, length, sum_by, vec_len, IfOk, OnOk};
 ghost use Rattle.inbox.specs.Merging.{all_of, sent_in};
 ghost use Rattle.inbox.specs.inside.Mail.{letters_in};
 ghost use Rattle.inbox.specs.inside.Shares.{goes_into};
@@ -68,14 +68,22 @@ impl<'a> Mail<'a> {
 pub fn letter_count(outboxes: &[Outbox]) -> u128
     ensures { result ≡ sum_by length outboxes.now }
 {
-    outboxes.iter().map(|outbox| outbox.len() as u128).sum()
+    let mut count = 0u128;
+    for outbox in outboxes {
+        count += outbox.len() as u128;
+    }
+    count
 }
 
 // Counts the items of all lists.
 pub fn item_count<T>(lists: &[Vec<T>]) -> u128
     ensures { result ≡ sum_by (λ list. vec_len list) lists.now }
 {
-    lists.iter().map(|list| list.len() as u128).sum()
+    let mut count = 0u128;
+    for list in lists {
+        count += list.len() as u128;
+    }
+    count
 }
 
 fn letters_of_lists(
@@ -89,10 +97,26 @@ fn letters_of_lists(
 {
     let mut letters = Vec::with_capacity(alloc, room)?;
     for list in lists {
-        let within = |letter: &&Letter| targets.takes(letter);
-        letters.extend(list.iter().filter(within).copied())?;
+        copy_list(list, targets, &mut letters)?;
     }
     Ok(letters)
+}
+
+// Appends those of a list's letters that go to these targets.
+fn copy_list(
+    list: &[Letter],
+    targets: TargetSet,
+    letters: &mut Vec<Letter>,
+) -> Result<(), AllocError>
+    ensures { OnOk result (letters.new.items
+        ≡ letters.old.items ++ filter (goes_into targets) list.now) }
+{
+    for letter in list {
+        if targets.takes(letter) {
+            letters.push(*letter)?;
+        }
+    }
+    Ok(())
 }
 
 fn letters_of_outboxes(

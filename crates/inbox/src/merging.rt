@@ -52,7 +52,7 @@ fn empty_inboxes(alloc: Global, count: usize) -> Result<Vec<Inbox>, AllocError>
 {
     let mut inboxes = Vec::with_capacity(alloc, count)?;
     for _ in 0..count {
-        inboxes.push(Inbox::empty(alloc))?;
+        inboxes.push_reserved(Inbox::empty(alloc));
     }
     Ok(inboxes)
 }

@@ -79,13 +79,23 @@ impl TargetSet {
         ensures { IsTrue result ↔ AllByRecursion
             (λ ids. AllByRecursion (λ id. has self id ≡ true) ids.items) parts.now }
     {
-        parts.iter().all(|ids| self.has_each(ids))
+        for ids in parts {
+            if !self.has_each(ids) {
+                return false;
+            }
+        }
+        true
     }
 
     fn has_each(self, ids: &[u64]) -> bool
         ensures { IsTrue result ↔ AllByRecursion (λ id. has self id ≡ true) ids.now }
     {
-        ids.iter().all(|id| self.has(*id))
+        for id in ids {
+            if !self.has(*id) {
+                return false;
+            }
+        }
+        true
     }
 }
 

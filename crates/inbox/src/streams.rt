@@ -171,7 +171,7 @@ fn rests_of_lists<'a>(alloc: Global, lists: &'a [Vec<Letter>]) -> Result<Vec<Res
 {
     let mut rests = Vec::with_capacity(alloc, lists.len())?;
     for list in lists {
-        rests.push(Rest::OfList(list.as_slice()))?;
+        rests.push_reserved(Rest::OfList(list.as_slice()));
     }
     Ok(rests)
 }
@@ -181,7 +181,7 @@ fn rests_of_outboxes<'a>(alloc: Global, outboxes: &'a [Outbox]) -> Result<Vec<Re
 {
     let mut rests = Vec::with_capacity(alloc, outboxes.len())?;
     for outbox in outboxes {
-        rests.push(Rest::OfOutbox(outbox.unread()))?;
+        rests.push_reserved(Rest::OfOutbox(outbox.unread()));
     }
     Ok(rests)
 }

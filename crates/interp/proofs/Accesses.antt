@@ -12,12 +12,12 @@ use Rattle.wasm_ast.specs.Widths.{load_width, store_width}
 use Rattle.verified.specs.Memory.{memory_bytes}
 use Rattle.verified.specs.Reached.{Access, is_reached}
 use Rattle.interp.specs.Accesses.{memory_access, plain_access, next_access, CallsTouchReached}
-use Rattle.interp.specs.Machine.{Machine, Running, run}
-use Rattle.interp.specs.inside.Kept.{AreMarked, MemoryTouches, PlainTouches, Touches, marks, marks_from}
-use Rattle.interp.proofs.Fixed.{depths_there, heights_there, sizes_there}
-use Rattle.interp.proofs.OneEnd.{one_start}
-use Rattle.interp.proofs.Values.{none_some, some_is}
-use Rattle.interp.proofs.Whole.{all_reached}
+use Rattle.semantics.specs.Machine.{Machine, Running, run}
+use Rattle.semantics.specs.inside.Touched.{AreMarked, MemoryTouches, PlainTouches, Touches, marks, marks_from}
+use Rattle.semantics.proofs.Fixed.{depths_there, heights_there, sizes_there}
+use Rattle.semantics.proofs.OneEnd.{one_start}
+use Rattle.semantics.proofs.Values.{none_some, some_is}
+use Rattle.semantics.proofs.Whole.{all_reached}
 
 -- ---- what the next instruction touches
 

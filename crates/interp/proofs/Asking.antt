@@ -20,7 +20,8 @@ use Rattle.wasm_ast.specs.declared.module.Function.{Function}
 use Rattle.wasm_ast.specs.Code.{Code}
 use Rattle.wasm_ast.specs.declared.plain.MemoryArgument.{MemoryArgument}
 use Rattle.verified.specs.Memory.{number_of}
-use Rattle.wasm_ast.specs.Numeric.{conversion_from, division_traps}
+use Rattle.wasm_ast.specs.Numeric.{conversion_from}
+use Rattle.numeric_values.specs.Operations.{division_traps}
 use Rattle.wasm_ast.specs.NumericTypes.{numeric_takes}
 use Rattle.wasm_ast.specs.Widths.{load_width, store_type, store_width}
 use Rattle.verified.specs.declared.call.TheConstants.{AGGREGATORS}
@@ -29,14 +30,14 @@ use Rattle.verified.specs.declared.imports.HostCall.TheVariants as call
 use Rattle.verified.specs.Effects.{HostEffect, host_effect}
 use Rattle.verified.specs.Effects as host
 use Rattle.verified.specs.Operands.{pop}
-use Rattle.interp.specs.Configuration.{State, Effect, Gives, Traps, Misses}
-use Rattle.interp.specs.Memory.{write, bytes_of_number}
-use Rattle.interp.specs.Effects.{popped, numeric_effect, select, pushed, variable_effect, load_effect, store_effect, effect, lifted}
-use Rattle.interp.specs.Machine.{Machine, Stuck, ControlEntry, Label, Frame, after_effect, jump, enter, taking}
+use Rattle.semantics.specs.Configuration.{State, Effect, Gives, Traps, Misses}
+use Rattle.semantics.specs.Memory.{write, bytes_of_number}
+use Rattle.semantics.specs.Effects.{popped, numeric_effect, select, pushed, variable_effect, load_effect, store_effect, effect, lifted}
+use Rattle.semantics.specs.Machine.{Machine, Stuck, ControlEntry, Label, Frame, after_effect, jump, enter, taking}
 use Rattle.interp.specs.inside.Cells.{call_takes, cell_call, cell_effect, cell_memory, cell_numeric, kept_effect, narrowed, seen, topped}
 use Rattle.interp.specs.inside.Kept.{is_kept, kept_read, kept_write}
 use Rattle.interp.specs.inside.Going.{is_going, has_labels, has_tops, of_top, of_next, divides, numeric_asks, variable_asks, reaches, memory_asks, plain_asks, call_asks}
-use Rattle.interp.proofs.Plains.{bytes_length}
+use Rattle.semantics.proofs.Plains.{bytes_length}
 
 -- ---- entries
 

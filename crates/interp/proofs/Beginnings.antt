@@ -4,10 +4,16 @@ use Rattle.wasm_ast.specs.declared.types.Value.{Value}
 use Rattle.wasm_ast.specs.declared.plain.Plain.{Plain}
 use Rattle.wasm_ast.specs.declared.body.Instr.{Instr}
 use Rattle.wasm_ast.specs.declared.body.Instr.TheVariants as instr
+use Rattle.wasm_ast.specs.declared.module.Module.{Module}
 use Rattle.wasm_ast.specs.Code.{Code}
 use Rattle.wasm_ast.specs.Code as code
 use Rattle.wasm_ast.specs.View.{code_of, then_code}
-use Rattle.interp.specs.Start.{before, constant_value}
+use Rattle.verified.specs.Modules.{IsTyped}
+use Rattle.verified.specs.Profile.{IsBounded}
+use Rattle.semantics.specs.Start.{before, constant_value}
+use Rattle.interp.specs.inside.Begun.{HasInitial}
+use Rattle.semantics.proofs.Starting.{begun}
+use Rattle.semantics.proofs.Whole.{compute_defined}
 
 -- ---- two instructions or more are no constant expression
 
@@ -46,3 +52,15 @@ after vs (Some us) = Some (vs ++ us)
 pub after_one : (vs : List Value) (v : Value) (o : Option (List Value)) → after vs (before (Some v) o) ≡ after (vs ++ v ∷ []) o
 after_one vs v None = refl
 after_one vs v (Some us) = ap (λ (l : List Value). Some l) (sym (append_assoc vs (v ∷ []) us))
+
+-- ---- what a bounded module's calls begin with is there
+
+pub has_initial : (m : Module) → IsTyped m → IsBounded m → HasInitial m
+has_initial m typed bounded =
+    let first = begun m typed bounded (compute_defined m bounded) in
+    record {
+      globals = first.globals;
+      bytes = first.bytes;
+      initial_values = first.begins.initial_values;
+      initial_bytes = first.begins.initial_bytes;
+    }

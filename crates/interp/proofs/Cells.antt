@@ -28,7 +28,8 @@ use Rattle.wasm_ast.specs.declared.module.Function.{Function}
 use Rattle.wasm_ast.specs.declared.module.Module.{Module}
 use Rattle.wasm_ast.specs.Code.{Code}
 use Rattle.wasm_ast.specs.Code as code
-use Rattle.wasm_ast.specs.Numeric.{bits_of, conversion_from, division_traps, division_value}
+use Rattle.wasm_ast.specs.Numeric.{bits_of, conversion_from}
+use Rattle.numeric_values.specs.Operations.{division_traps, division_value}
 use Rattle.wasm_ast.specs.Values.{zero_of}
 use Rattle.wasm_ast.specs.Widths.{load_width, store_type, store_width}
 use Rattle.verified.specs.declared.call.TheConstants.{AGGREGATORS}
@@ -39,15 +40,16 @@ use Rattle.verified.specs.Effects as host
 use Rattle.verified.specs.Host.{Host, aggregator_value}
 use Rattle.verified.specs.Operands.{pop}
 use Rattle.verified.specs.Memory.{page}
-use Rattle.interp.specs.Configuration.{State, Effect, Gives, Traps, Misses, with_locals, with_globals, tick}
-use Rattle.interp.specs.Memory.{read, write}
-use Rattle.interp.specs.Effects.{value, popped, numeric_effect, select, pushed, local_set, global_set, variable_effect, load_effect, store_effect, memory_effect, effect, lifted, call_effect}
-use Rattle.interp.specs.Machine as machine
-use Rattle.interp.specs.Machine.{Machine, Running, Stuck, ControlEntry, Label, Frame, Callee, defined, functions_of, first, carry, landed, arrive, jump, back, leave, label_of, branch_unless_zero, take_branch, taking, gives_one, after_effect, enter, take_call, next_units, take_next, advance}
+use Rattle.semantics.specs.Configuration.{State, Effect, Gives, Traps, Misses, with_locals, with_globals, tick}
+use Rattle.semantics.specs.Memory.{read, write}
+use Rattle.semantics.specs.Effects.{value, popped, numeric_effect, select, pushed, local_set, global_set, variable_effect, load_effect, store_effect, memory_effect, effect, lifted, call_effect}
+use Rattle.semantics.specs.Machine as machine
+use Rattle.semantics.specs.Machine.{Machine, Running, Stuck, ControlEntry, Label, Frame, Callee, defined, functions_of, first, carry, landed, arrive, jump, back, leave, label_of, branch_unless_zero, take_branch, taking, gives_one, after_effect, enter, take_call, next_units, take_next, advance}
 use Rattle.interp.specs.inside.Going.{is_going}
 use Rattle.interp.specs.inside.Cells.{cell_of, cells_place, cells_state, cells_entry, cells, in_width, narrowed, of_any_width, seen, topped, zero_cells, cell_numeric, cell_memory, cell_effect, cell_call, cell_branch, celled, cell_take_call, cell_next, cell_advance}
 use Rattle.interp.specs.inside.Fits.{AreFit, EntriesFit, MachineFits, StateFits}
-use Rattle.interp.specs.inside.Kept.{AreMarked, MemoryTouches, PlainTouches, Touches, kept_read, kept_write, masked}
+use Rattle.interp.specs.inside.Kept.{kept_read, kept_write, masked}
+use Rattle.semantics.specs.inside.Touched.{AreMarked, MemoryTouches, PlainTouches, Touches}
 use Rattle.interp.specs.inside.Place.{Place, running}
 use Rattle.interp.proofs.Fits.{EffectFits, RestFits, after_fits, aggregate_fits, aggregated_fits, branch_fits, discard_fits, enter_fits, leave_fits, loads_rest, numeric_rest, selected_fits, send_fits, set_value_fits, stores_fit, taking_fits, variable_fits}
 use Rattle.interp.proofs.Asking.{IsGiven, effect_given, loaded_asked, written_asked}

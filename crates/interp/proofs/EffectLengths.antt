@@ -13,7 +13,8 @@ use Rattle.wasm_ast.specs.declared.plain.Variable.{Variable}
 use Rattle.wasm_ast.specs.declared.plain.Variable.TheVariants as variable
 use Rattle.wasm_ast.specs.declared.plain.Plain.{Plain}
 use Rattle.wasm_ast.specs.declared.plain.Plain.TheVariants as plain
-use Rattle.wasm_ast.specs.Numeric.{bits_of, conversion_from, division_traps, division_value}
+use Rattle.wasm_ast.specs.Numeric.{bits_of, conversion_from}
+use Rattle.numeric_values.specs.Operations.{division_traps, division_value}
 use Rattle.wasm_ast.specs.Widths.{store_type}
 use Rattle.verified.specs.declared.imports.HostCall.{HostCall}
 use Rattle.verified.specs.declared.imports.HostCall.TheVariants.{VertexId, Superstep, NumVertices, GetValue, SetValue, NextMessage, MessageValue, NextEdge, EdgeTarget, EdgeValue, Send, Aggregate, Aggregated, VoteToHalt}
@@ -24,9 +25,9 @@ use Rattle.verified.specs.Imports.{type_of_call}
 use Rattle.verified.specs.Operands.{number, with_number, pop}
 use Rattle.verified.specs.Arities.{plain_arity}
 use Rattle.verified.specs.Heights.{after}
-use Rattle.interp.specs.Configuration.{State, with_globals, with_locals, Effect, Gives, Traps, Misses}
-use Rattle.interp.specs.Effects.{value, popped, numeric_effect, discard, select, pushed, variable_effect, load_effect, store_effect, memory_effect, effect, lifted}
-use Rattle.interp.specs.Machine as machine
+use Rattle.semantics.specs.Configuration.{State, with_globals, with_locals, Effect, Gives, Traps, Misses}
+use Rattle.semantics.specs.Effects.{value, popped, numeric_effect, discard, select, pushed, variable_effect, load_effect, store_effect, memory_effect, effect, lifted}
+use Rattle.semantics.specs.Machine as machine
 
 -- there are this many operands after the effect, if it has one
 abbrev pub Leaves : ℕ → Effect → Type 0

@@ -1,13 +1,13 @@
 -- A walk's turn, and the end of a walk.
 use Rattle.std.proofs.Common.{true, ◌≡◌, ◌≢◌, ℕ, zero, suc, ◌+◌, ◌<◌, ◌≤◌, refl, sym, ap, ◌∙◌, subst, arith}
 use Rattle.wasm_ast.specs.declared.module.Module.{Module}
-use Rattle.interp.specs.Configuration.{State}
-use Rattle.interp.specs.Machine.{Machine, Running, Done, Trapped, Stuck, IsOver, advance, run, next_units}
+use Rattle.semantics.specs.Configuration.{State}
+use Rattle.semantics.specs.Machine.{Machine, Running, Done, Trapped, Stuck, IsOver, advance, run, next_units}
 use Rattle.interp.specs.inside.Going.{is_going}
 use Rattle.interp.specs.inside.Place.{Place, running}
 use Rattle.interp.specs.inside.Walk.{Comes, Finishes, EndsWithin}
-use Rattle.interp.proofs.RunLaws.{run-add, run_on, stays, over_at, one_end, not_over_before}
-use Rattle.interp.proofs.Counts.{Counted, counted_after}
+use Rattle.semantics.proofs.RunLaws.{run-add, run_on, stays, over_at, one_end, not_over_before}
+use Rattle.interp.proofs.Falling.{Counted, counted_after}
 
 pub comes_here : (m : Module) (x : Machine) → Comes m x x
 comes_here m x = record { steps = zero; there = refl }

@@ -21,7 +21,8 @@ use Rattle.wasm_ast.specs.declared.plain.Branch.{Branch}
 use Rattle.wasm_ast.specs.declared.plain.Branch.TheVariants as branch
 use Rattle.wasm_ast.specs.declared.module.Function.{Function}
 use Rattle.wasm_ast.specs.Code.{Code}
-use Rattle.wasm_ast.specs.Numeric.{bits_of, conversion_from, division_traps, division_value}
+use Rattle.wasm_ast.specs.Numeric.{bits_of, conversion_from}
+use Rattle.numeric_values.specs.Operations.{division_traps, division_value}
 use Rattle.wasm_ast.specs.Values.{zero_of}
 use Rattle.wasm_ast.specs.Widths.{load_width, store_type, store_width}
 use Rattle.verified.specs.declared.call.TheConstants.{AGGREGATORS}
@@ -30,10 +31,10 @@ use Rattle.verified.specs.Effects.{HostEffect}
 use Rattle.verified.specs.Effects as host
 use Rattle.verified.specs.Host.{Host, aggregator_value, with_contribution}
 use Rattle.verified.specs.Operands.{number, with_number, pop}
-use Rattle.interp.specs.Configuration.{State, Effect, Gives, Traps, Misses, with_locals, with_globals}
-use Rattle.interp.specs.Memory.{read, write}
-use Rattle.interp.specs.Effects.{value, popped, numeric_effect, discard, select, pushed, variable_effect, load_effect, store_effect, memory_effect, effect, lifted, call_effect}
-use Rattle.interp.specs.Machine.{Machine, Running, Stuck, ControlEntry, Label, Frame, first, carry, landed, arrive, jump, back, leave, label_of, branch_unless_zero, take_branch, taking, gives_one, after_effect, enter}
+use Rattle.semantics.specs.Configuration.{State, Effect, Gives, Traps, Misses, with_locals, with_globals}
+use Rattle.semantics.specs.Memory.{read, write}
+use Rattle.semantics.specs.Effects.{value, popped, numeric_effect, discard, select, pushed, variable_effect, load_effect, store_effect, memory_effect, effect, lifted, call_effect}
+use Rattle.semantics.specs.Machine.{Machine, Running, Stuck, ControlEntry, Label, Frame, first, carry, landed, arrive, jump, back, leave, label_of, branch_unless_zero, take_branch, taking, gives_one, after_effect, enter}
 use Rattle.interp.specs.inside.Fits.{IsFit, AreFit, StateFits, EntriesFit, MachineFits}
 
 -- one that may be there

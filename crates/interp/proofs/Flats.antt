@@ -16,7 +16,7 @@ use Rattle.verified.specs.View.{then_code, then_plain}
 use Rattle.verified.specs.Weights.{plain_units}
 use Rattle.verified.specs.Host.{Host}
 use Rattle.verified.specs.declared.imports.HostCall.{HostCall}
-use Rattle.interp.specs.Configuration.{tick}
+use Rattle.semantics.specs.Configuration.{tick}
 use Rattle.interp.specs.declared.plain.Acted.{Acted}
 use Rattle.interp.specs.inside.Cells.{cell_effect, in_width}
 use Rattle.interp.specs.inside.Flat.{BesideDid, Fails, FlatDid, PlainDid, Stops, flat_asks}

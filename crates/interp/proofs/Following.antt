@@ -5,20 +5,20 @@ use Rattle.wasm_ast.specs.declared.module.Module.{Module}
 use Rattle.wasm_ast.specs.declared.types.Value.{Value}
 use Rattle.wasm_ast.specs.Code.{Code}
 use Rattle.wasm_ast.specs.Code as code
-use Rattle.interp.specs.Configuration.{State}
-use Rattle.interp.specs.Heights.{beneath, held, entries, locals, operands}
-use Rattle.interp.specs.Machine.{Machine, Running, Done, Trapped, Stuck, ControlEntry, Label, Frame, advance, next_units, run}
+use Rattle.semantics.specs.Configuration.{State}
+use Rattle.semantics.specs.Heights.{beneath, held, entries, locals, operands}
+use Rattle.semantics.specs.Machine.{Machine, Running, Done, Trapped, Stuck, ControlEntry, Label, Frame, advance, next_units, run}
 use Rattle.interp.specs.inside.Cells.{cell_advance, cell_of, cells, cells_entry, cells_place, cells_state, in_width, of_any_width}
 use Rattle.interp.specs.inside.Fits.{MachineFits}
 use Rattle.interp.specs.inside.Given.{HasGiven}
 use Rattle.interp.specs.inside.Going.{is_going}
-use Rattle.interp.specs.inside.Kept.{AreMarked, Touches, marks}
+use Rattle.semantics.specs.inside.Touched.{AreMarked, Touches, marks}
 use Rattle.interp.specs.inside.Place.{HasFrameRoom, Place, Room, Standing, at, running, state_of}
 use Rattle.interp.specs.inside.Walk.{BeginsAgain, EndsWithin, Finishes, Follows, IsWithinRoom, left_of}
 use Rattle.interp.proofs.Cells.{step_follows, step_kept}
-use Rattle.interp.proofs.Counts.{falls}
+use Rattle.interp.proofs.Falling.{falls}
 use Rattle.interp.proofs.Ending.{comes_on, finishes, goes, room}
-use Rattle.interp.proofs.RunLaws.{run_on}
+use Rattle.semantics.proofs.RunLaws.{run_on}
 
 going_as_cells : (ms : List Bool) (x : Machine) → is_going (cells ms x) ≡ is_going x
 going_as_cells ms (Running vs is ls st) = refl

@@ -8,7 +8,7 @@ use Rattle.wasm_ast.specs.declared.module.ImportDescription.{ImportDescription}
 use Rattle.wasm_ast.specs.declared.module.ImportDescription.TheVariants as import
 use Rattle.wasm_ast.specs.declared.module.Module.{Module}
 use Rattle.verified.specs.declared.imports.HostCall.{HostCall}
-use Rattle.interp.specs.Machine.{Callee, host, defined, function_import, functions_of, imported_functions, label_of}
+use Rattle.semantics.specs.Machine.{Callee, host, defined, function_import, functions_of, imported_functions, label_of}
 use Rattle.interp.specs.inside.Meaning.{AreImports, host_callee}
 
 nth_host : (calls : List HostCall) (fs : List Callee) (n : ℕ) (c : HostCall) → slice_get calls n ≡ Some c → slice_get (map host_callee calls ++ fs) n ≡ Some (host_callee c)

@@ -9,15 +9,15 @@ use Rattle.wasm_ast.specs.Code.{Code}
 use Rattle.wasm_ast.specs.Code as code
 use Rattle.wasm_ast.specs.Values.{type_of}
 use Rattle.verified.specs.Kinds.{Kind}
-use Rattle.interp.specs.Configuration.{State, with_locals}
-use Rattle.interp.specs.Machine.{Machine, Running, Done, Trapped, Stuck, ControlEntry, Label, Frame, landed, jump, back, has_result, carry, advance, run}
+use Rattle.semantics.specs.Configuration.{State, with_locals}
+use Rattle.semantics.specs.Machine.{Machine, Running, Done, Trapped, Stuck, ControlEntry, Label, Frame, landed, jump, back, has_result, carry, advance, run}
 use Rattle.interp.specs.Sequences.{CountsWithin, IsIn, IsLeft}
-use Rattle.interp.specs.Typed.{HasKinds, IsTop, Sound, items_left}
-use Rattle.interp.proofs.Plains.{context}
-use Rattle.interp.proofs.Reach.{Exit, Falls, Branches, Returns, Fits, arrives}
-use Rattle.interp.proofs.RunLaws.{run-add, stays}
+use Rattle.semantics.specs.Typed.{HasKinds, IsTop, Sound, items_left}
+use Rattle.semantics.proofs.Plains.{context}
+use Rattle.semantics.proofs.Reach.{Exit, Falls, Branches, Returns, Fits, arrives}
+use Rattle.semantics.proofs.RunLaws.{run-add, stays}
 use Rattle.interp.proofs.Surrounded.{Departs, Inner, IsGone, InStuck, InTrap, Leaves, Within, around, departs, exit_out}
-use Rattle.interp.proofs.Values.{none_some, some_is}
+use Rattle.semantics.proofs.Values.{none_some, some_is}
 
 -- ---- entries that show how a sequence is left
 

@@ -11,8 +11,8 @@ use Rattle.wasm_ast.specs.Code.{Code}
 use Rattle.wasm_ast.specs.Code as code
 use Rattle.verified.specs.Host.{Host}
 use Rattle.verified.specs.declared.imports.HostCall.{HostCall}
-use Rattle.interp.specs.Configuration.{State, tick, with_host}
-use Rattle.interp.specs.Machine.{Machine, Running, Done, Trapped, Stuck, ControlEntry, Label, Frame, Callee, host, defined, arrive, back, branch_unless_zero, carry, enter, first, functions_of, jump, label_of, landed, leave, next_units, taking}
+use Rattle.semantics.specs.Configuration.{State, tick, with_host}
+use Rattle.semantics.specs.Machine.{Machine, Running, Done, Trapped, Stuck, ControlEntry, Label, Frame, Callee, host, defined, arrive, back, branch_unless_zero, carry, enter, first, functions_of, jump, label_of, landed, leave, next_units, taking}
 use Rattle.interp.specs.declared.walk.Turn.{Turn}
 use Rattle.interp.specs.declared.walk.Turn.TheVariants as turn
 use Rattle.interp.specs.inside.Cells.{cell_advance, cell_take_call, celled, of_any_width, in_width, seen}

@@ -9,7 +9,7 @@ use Rattle.wasm_ast.specs.Limits.{is_function, is_function_description}
 use Rattle.verified.specs.declared.imports.HostCall.{HostCall}
 use Rattle.verified.specs.Imports.{call_of}
 use Rattle.verified.specs.Hosts.{AreHostCalls}
-use Rattle.interp.specs.Machine.{Callee, host, function_import, imported_functions}
+use Rattle.semantics.specs.Machine.{Callee, host, function_import, imported_functions}
 use Rattle.interp.specs.inside.Meaning.{AreImports, host_callee}
 
 abbrev hosts : List Import → List Callee

@@ -9,7 +9,7 @@ use Rattle.verified.specs.Weights.{host_units}
 use Rattle.verified.specs.declared.body.FlatInstr.TheVariants as flat
 use Rattle.verified.specs.Host.{Host}
 use Rattle.verified.specs.declared.imports.HostCall.{HostCall}
-use Rattle.interp.specs.Configuration.{tick}
+use Rattle.semantics.specs.Configuration.{tick}
 use Rattle.interp.specs.inside.Acts.{state}
 use Rattle.interp.specs.inside.Cells.{cell_effect, in_width}
 use Rattle.interp.specs.inside.Meaning.{AreImports}

@@ -6,10 +6,11 @@ use Rattle.wasm_ast.specs.declared.module.Module.{Module}
 use Rattle.verified.specs.Memory.{max_minimum, memory_bytes, page}
 use Rattle.verified.specs.Profile.{IsBounded}
 use Rattle.verified.specs.Reached.{is_reached, reached_below, reached_bytes}
-use Rattle.interp.specs.Memory.{bytes_of_number, number_of_bytes, read, write}
-use Rattle.interp.specs.inside.Kept.{AreMarked, are_kept, byte_of, count_kept, is_kept, kept_read, kept_write, laid_over, marked_before, marks, marks_from, masked, over, spread}
+use Rattle.semantics.specs.Memory.{bytes_of_number, number_of_bytes, read, write}
+use Rattle.interp.specs.inside.Kept.{are_kept, byte_of, count_kept, is_kept, kept_read, kept_write, laid_over, marked_before, masked, over, spread}
+use Rattle.semantics.specs.inside.Touched.{AreMarked, marks, marks_from}
 use Rattle.verified.proofs.MemorySize.{memory_small}
-use Rattle.interp.proofs.Plains.{bytes_length}
+use Rattle.semantics.proofs.Plains.{bytes_length}
 
 drop_none : {A : Type 0} (n : ℕ) → drop {A = A} n [] ≡ []
 drop_none zero = refl

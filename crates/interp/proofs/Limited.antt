@@ -24,7 +24,8 @@ use Rattle.wasm_ast.specs.declared.module.Module.{Module}
 use Rattle.wasm_ast.specs.Code.{Code}
 use Rattle.wasm_ast.specs.Code as code
 use Rattle.wasm_ast.specs.Limits.{IsCodeWithin, IsFunctionWithin, length_of_parameters, max_locals, max_nesting}
-use Rattle.wasm_ast.specs.Numeric.{bits_of, conversion_from, division_traps, division_value}
+use Rattle.wasm_ast.specs.Numeric.{bits_of, conversion_from}
+use Rattle.numeric_values.specs.Operations.{division_traps, division_value}
 use Rattle.wasm_ast.specs.Values.{zero_of}
 use Rattle.wasm_ast.specs.Widths.{store_type}
 use Rattle.verified.specs.declared.imports.HostCall.{HostCall}
@@ -32,11 +33,11 @@ use Rattle.verified.specs.Effects.{HostEffect, host_effect}
 use Rattle.verified.specs.Effects as host
 use Rattle.verified.specs.Host.{Host}
 use Rattle.verified.specs.Operands.{number, with_number, pop}
-use Rattle.interp.specs.Configuration.{State, with_locals, with_globals, tick, Effect, Gives, Traps, Misses}
-use Rattle.interp.specs.Effects.{value, popped, numeric_effect, discard, select, pushed, variable_effect, load_effect, store_effect, memory_effect, effect, lifted}
-use Rattle.interp.specs.Machine as machine
-use Rattle.interp.specs.Machine.{Machine, Running, Done, Trapped, Stuck, ControlEntry, Label, Frame, Callee, defined, functions_of, landed, arrive, jump, back, leave, label_of, taking, branch_unless_zero, take_branch, gives_one, after_effect, take_call, next_units, take_next, first, carry, advance, run}
-use Rattle.interp.specs.Heights.{callers, held}
+use Rattle.semantics.specs.Configuration.{State, with_locals, with_globals, tick, Effect, Gives, Traps, Misses}
+use Rattle.semantics.specs.Effects.{value, popped, numeric_effect, discard, select, pushed, variable_effect, load_effect, store_effect, memory_effect, effect, lifted}
+use Rattle.semantics.specs.Machine as machine
+use Rattle.semantics.specs.Machine.{Machine, Running, Done, Trapped, Stuck, ControlEntry, Label, Frame, Callee, defined, functions_of, landed, arrive, jump, back, leave, label_of, taking, branch_unless_zero, take_branch, gives_one, after_effect, take_call, next_units, take_next, first, carry, advance, run}
+use Rattle.semantics.specs.Heights.{callers, held}
 use Rattle.interp.proofs.Functions.{of_defined}
 
 -- the levels of blocks that remain to the code running in the entries, of those that a function may have

@@ -32,24 +32,24 @@ use Rattle.verified.specs.Known.{FunctionKnown, Known}
 use Rattle.verified.specs.Memory.{memory_bytes}
 use Rattle.verified.specs.Profile.{IsBounded, asks_all, plain_type}
 use Rattle.verified.specs.declared.requirements.Requirement.TheVariants as requirement
-use Rattle.interp.specs.Configuration.{State, with_locals, tick, Effect, Gives, Traps, Misses}
-use Rattle.interp.specs.Effects.{effect}
-use Rattle.interp.specs.Heights.{callers, frames}
-use Rattle.interp.specs.Machine as machine
-use Rattle.interp.specs.Machine.{Machine, Running, Done, Trapped, Stuck, ControlEntry, Label, Frame, Callee, defined, functions_of, landed, arrive, jump, back, leave, label_of, taking, branch_unless_zero, take_branch, has_result, arm, gives_one, after_effect, take_call, next_units, first, carry, advance, run}
+use Rattle.semantics.specs.Configuration.{State, with_locals, tick, Effect, Gives, Traps, Misses}
+use Rattle.semantics.specs.Effects.{effect}
+use Rattle.semantics.specs.Heights.{callers, frames}
+use Rattle.semantics.specs.Machine as machine
+use Rattle.semantics.specs.Machine.{Machine, Running, Done, Trapped, Stuck, ControlEntry, Label, Frame, Callee, defined, functions_of, landed, arrive, jump, back, leave, label_of, taking, branch_unless_zero, take_branch, has_result, arm, gives_one, after_effect, take_call, next_units, first, carry, advance, run}
 use Rattle.interp.specs.OwnOperands.{AreOwn, CallsKeepOwn, active_after, active_at, called, entered, own_above, own_operands}
-use Rattle.interp.specs.Start.{Starts, start_state}
-use Rattle.interp.proofs.Callees.{IsDefinedFunction, IsHostFunction, function_at}
-use Rattle.interp.proofs.Covering.{Anywhere}
+use Rattle.semantics.specs.Start.{Starts, start_state}
+use Rattle.semantics.proofs.Callees.{IsDefinedFunction, IsHostFunction, function_at}
+use Rattle.semantics.proofs.Covering.{Anywhere}
 use Rattle.interp.proofs.EffectLengths.{Leaves, leaves_call, leaves_plain}
-use Rattle.interp.proofs.Entering.{call_length}
-use Rattle.interp.proofs.Fairness.{parts}
-use Rattle.interp.proofs.Lengths.{all_at, call_counts, call_results, changes_length, kinds_count, low_from, plain_length, requirements_count}
-use Rattle.interp.proofs.OneEnd.{one_start}
-use Rattle.interp.proofs.Plains.{context}
-use Rattle.interp.proofs.Starting.{begun}
-use Rattle.interp.proofs.Values.{forget_length, meet_length, none_some, some_is}
-use Rattle.interp.proofs.Whole.{compute_defined}
+use Rattle.semantics.proofs.Entering.{call_length}
+use Rattle.semantics.proofs.Fairness.{parts}
+use Rattle.semantics.proofs.Lengths.{all_at, call_counts, call_results, changes_length, kinds_count, low_from, plain_length, requirements_count}
+use Rattle.semantics.proofs.OneEnd.{one_start}
+use Rattle.semantics.proofs.Plains.{context}
+use Rattle.semantics.proofs.Starting.{begun}
+use Rattle.semantics.proofs.Values.{forget_length, meet_length, none_some, some_is}
+use Rattle.semantics.proofs.Whole.{compute_defined}
 
 -- ---- code that goes from one number of operands to another
 

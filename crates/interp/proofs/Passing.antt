@@ -16,9 +16,9 @@ use Rattle.verified.specs.View.{code_of, then_code, then_control, then_plain}
 use Rattle.verified.specs.Weights.{call_units, host_units, plain_units}
 use Rattle.verified.specs.Host.{Host}
 use Rattle.verified.specs.declared.imports.HostCall.{HostCall}
-use Rattle.interp.specs.Configuration.{State, Effect, Gives, tick}
-use Rattle.interp.specs.Heights.{beneath}
-use Rattle.interp.specs.Machine.{Machine, Running, ControlEntry, Label, Callee, host, after_effect, arm, branch_unless_zero, functions_of, has_result, next_units}
+use Rattle.semantics.specs.Configuration.{State, Effect, Gives, tick}
+use Rattle.semantics.specs.Heights.{beneath}
+use Rattle.semantics.specs.Machine.{Machine, Running, ControlEntry, Label, Callee, host, after_effect, arm, branch_unless_zero, functions_of, has_result, next_units}
 use Rattle.interp.specs.inside.Cells.{cell_advance, cell_call, cell_take_call, in_width, narrowed, of_any_width}
 use Rattle.interp.specs.inside.Given.{HasGiven, gives}
 use Rattle.interp.specs.inside.Going.{is_going}

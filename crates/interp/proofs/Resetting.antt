@@ -20,20 +20,21 @@ use Rattle.wasm_ast.specs.Values.{zero_of}
 use Rattle.verified.specs.declared.call.CallInput.{CallInput}
 use Rattle.verified.specs.Host.{Host, host_of}
 use Rattle.verified.specs.Memory.{memory_bytes}
-use Rattle.interp.specs.Machine.{ControlEntry}
-use Rattle.interp.specs.Memory.{laid}
-use Rattle.interp.specs.Start.{Starts, before, constant_plain, constant_value, initial_globals, initial_memory, laid_at, laid_in, segment_laid, start_state}
+use Rattle.semantics.specs.Machine.{ControlEntry}
+use Rattle.semantics.specs.Memory.{laid}
+use Rattle.semantics.specs.Start.{Starts, before, constant_plain, constant_value, initial_globals, initial_memory, laid_at, laid_in, segment_laid, start_state}
 use Rattle.interp.specs.inside.Begun.{AreInitial, AreInitialBytes, BeginsWith, HasInitial, IsBeginning, IsReset, cell_laid_at, cell_memory_laid, cell_segment_laid, cells_laid_in}
 use Rattle.interp.specs.inside.Cells.{cell_of, cells_place, in_width, zero_cells}
 use Rattle.interp.specs.inside.Fits.{AreFit, IsFit}
-use Rattle.interp.specs.inside.Kept.{laid_over, marks, masked}
+use Rattle.interp.specs.inside.Kept.{laid_over, masked}
+use Rattle.semantics.specs.inside.Touched.{marks}
 use Rattle.interp.specs.inside.Place.{Place, Standing, at, hosted, running}
 use Rattle.interp.proofs.Beginnings.{after, after_one}
 use Rattle.interp.proofs.Cells.{zeros_follow}
 use Rattle.interp.proofs.Ending.{comes_here}
 use Rattle.interp.proofs.Fits.{fit-append, zeros_fit}
 use Rattle.interp.proofs.Kept.{laid_masked, length-masked}
-use Rattle.interp.proofs.Values.{some_is}
+use Rattle.semantics.proofs.Values.{some_is}
 
 -- ---- globals
 

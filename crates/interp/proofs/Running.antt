@@ -14,22 +14,22 @@ use Rattle.verified.specs.Facts.{IsSizeOfCompute}
 use Rattle.verified.specs.Profile.{IsBounded}
 use Rattle.interp.specs.inside.Cells.{cells_state}
 use Rattle.interp.specs.inside.Begun.{BeginsAt, BeginsWith, EndsFrom, EndsInRoom, EndsWith, IsBeginning, IsDefinedAt}
-use Rattle.interp.specs.Bounded.{Ends, IsWithinBound, NeverFails, items_of}
-use Rattle.interp.specs.Call.{IsOutcome, outcome_of, shown}
-use Rattle.interp.specs.Configuration.{State}
-use Rattle.interp.specs.Machine.{Machine, defined, functions_of, run}
-use Rattle.interp.specs.Start.{Starts}
-use Rattle.interp.specs.inside.Kept.{AreMarked, Touches, marks}
+use Rattle.semantics.specs.Bounded.{Ends, IsWithinBound, NeverFails, items_of}
+use Rattle.semantics.specs.Call.{IsOutcome, outcome_of, shown}
+use Rattle.semantics.specs.Configuration.{State}
+use Rattle.semantics.specs.Machine.{Machine, defined, functions_of, run}
+use Rattle.semantics.specs.Start.{Starts}
+use Rattle.semantics.specs.inside.Touched.{AreMarked, Touches, marks}
 use Rattle.interp.specs.inside.Place.{Place, Room, Standing, at}
 use Rattle.interp.specs.inside.Walk.{Concludes, EndsWithin, IsWithinRoom, LeadsWithin}
-use Rattle.interp.proofs.Faults.{no_fault, never_fails}
-use Rattle.interp.proofs.Fixed.{depths_there, heights_there, sizes_there}
+use Rattle.semantics.proofs.Faults.{no_fault, never_fails}
+use Rattle.semantics.proofs.Fixed.{depths_there, heights_there, sizes_there}
 use Rattle.interp.proofs.Functions.{of_defined}
-use Rattle.interp.proofs.OneEnd.{one_start}
-use Rattle.interp.proofs.Starting.{exported_number}
-use Rattle.interp.proofs.Told.{always_ends}
-use Rattle.interp.proofs.Values.{some_is}
-use Rattle.interp.proofs.Whole.{all_reached, calls_end}
+use Rattle.semantics.proofs.OneEnd.{one_start}
+use Rattle.semantics.proofs.Starting.{exported_number}
+use Rattle.semantics.proofs.Told.{always_ends}
+use Rattle.semantics.proofs.Values.{some_is}
+use Rattle.semantics.proofs.Whole.{all_reached, calls_end}
 
 module _ (m : Module) (typed : IsTyped m) (bounded : IsBounded m) where
   pub begins_at : (n : ℕ) → IsComputeNumber m n → CallInput → BeginsAt m n

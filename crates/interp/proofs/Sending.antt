@@ -17,22 +17,22 @@ use Rattle.verified.specs.Operands.{number, with_number, pop}
 use Rattle.verified.specs.Modules.{IsTyped}
 use Rattle.verified.specs.Memory.{number_of}
 use Rattle.verified.specs.Profile.{IsBounded}
-use Rattle.interp.specs.Call.{outcome_of}
-use Rattle.interp.specs.Configuration.{State}
-use Rattle.interp.specs.Effects.{lifted}
-use Rattle.interp.specs.Machine.{Machine, Running, Done, Trapped, Stuck, ControlEntry, after_effect, run}
+use Rattle.semantics.specs.Call.{outcome_of}
+use Rattle.semantics.specs.Configuration.{State}
+use Rattle.semantics.specs.Effects.{lifted}
+use Rattle.semantics.specs.Machine.{Machine, Running, Done, Trapped, Stuck, ControlEntry, after_effect, run}
 use Rattle.interp.specs.Room.{IsSilent}
-use Rattle.interp.specs.Start.{Starts}
+use Rattle.semantics.specs.Start.{Starts}
 use Rattle.interp.specs.inside.Begun.{Sends}
 use Rattle.interp.specs.inside.Cells.{cell_call, in_width, narrowed, of_any_width}
 use Rattle.interp.specs.inside.Given.{HasGiven, HostHasGiven, given, gives}
 use Rattle.interp.specs.inside.Going.{is_going}
 use Rattle.interp.proofs.Limited.{HostEffectKeeps, Lasts, MachineWithin, run_within}
-use Rattle.interp.proofs.OneEnd.{one_start}
-use Rattle.interp.proofs.Outcomes.{first}
-use Rattle.interp.proofs.RunLaws.{run-add, stays, over_at}
+use Rattle.semantics.proofs.OneEnd.{one_start}
+use Rattle.semantics.proofs.Outcomes.{first}
+use Rattle.semantics.proofs.RunLaws.{run-add, stays, over_at}
 use Rattle.interp.proofs.Staying.{AnyHost, any_lasts, start_within}
-use Rattle.interp.proofs.Told.{always_ends}
+use Rattle.semantics.proofs.Told.{always_ends}
 
 -- ---- calls of the host
 

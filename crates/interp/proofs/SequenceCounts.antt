@@ -12,19 +12,19 @@ use Rattle.verified.specs.Arities.{arity_table}
 use Rattle.verified.specs.Heights.{peak}
 use Rattle.verified.specs.Kinds.{Kind}
 use Rattle.verified.specs.Reached.{accesses, accesses_along}
-use Rattle.interp.specs.Configuration.{State}
-use Rattle.interp.specs.Heights.{beneath, operands, callers, frames}
-use Rattle.interp.specs.Machine.{ControlEntry, Label, Frame, Running, landed, carry, arrive, jump, back}
+use Rattle.semantics.specs.Configuration.{State}
+use Rattle.semantics.specs.Heights.{beneath, operands, callers, frames}
+use Rattle.semantics.specs.Machine.{ControlEntry, Label, Frame, Running, landed, carry, arrive, jump, back}
 use Rattle.interp.specs.Sequences.{SequencesCount}
-use Rattle.interp.proofs.Values.{kinds_length}
+use Rattle.semantics.proofs.Values.{kinds_length}
 use Rattle.interp.proofs.Guarded.{Told, counts}
-use Rattle.interp.proofs.Reach.{Exit, Falls, Branches, Returns, Fits, IsLow, Named, Reaches, arrives}
-use Rattle.interp.proofs.Plains.{context}
-use Rattle.interp.proofs.Covering.{Anywhere, anywhere, anywhere_met, covered, operand_of, own_known}
-use Rattle.interp.proofs.Induction.{code_good}
-use Rattle.interp.proofs.Fairness.{fair, below_most}
-use Rattle.interp.proofs.Fixed.{depths_there, heights_there}
-use Rattle.interp.proofs.Whole.{function_good}
+use Rattle.semantics.proofs.Reach.{Exit, Falls, Branches, Returns, Fits, IsLow, Named, Reaches, arrives}
+use Rattle.semantics.proofs.Plains.{context}
+use Rattle.semantics.proofs.Covering.{Anywhere, anywhere, anywhere_met, covered, operand_of, own_known}
+use Rattle.semantics.proofs.Induction.{code_good}
+use Rattle.semantics.proofs.Fairness.{fair, below_most}
+use Rattle.semantics.proofs.Fixed.{depths_there, heights_there}
+use Rattle.semantics.proofs.Whole.{function_good}
 
 -- ---- a branch brings no more operands and frames than lie round the sequence, but for the one that it carries
 

@@ -8,9 +8,9 @@ use Rattle.wasm_ast.specs.declared.types.Value.{Value}
 use Rattle.verified.specs.declared.body.FlatInstr.{FlatInstr}
 use Rattle.wasm_ast.specs.Code.{Code}
 use Rattle.verified.specs.View.{code_of}
-use Rattle.interp.specs.Configuration.{State}
-use Rattle.interp.specs.Heights.{beneath, held}
-use Rattle.interp.specs.Machine as machine
+use Rattle.semantics.specs.Configuration.{State}
+use Rattle.semantics.specs.Heights.{beneath, held}
+use Rattle.semantics.specs.Machine as machine
 use Rattle.interp.specs.inside.Going.{has_labels}
 use Rattle.interp.specs.inside.Meaning.{entries_of, Ordered, keeps_of, target_of}
 use Rattle.interp.specs.inside.Place.{HasEntryRoom, Standing}

@@ -10,19 +10,19 @@ use Rattle.verified.specs.Host.{Host, host_of}
 use Rattle.verified.specs.declared.call.CallInput.{CallInput}
 use Rattle.verified.specs.Modules.{IsTyped}
 use Rattle.verified.specs.Profile.{IsBounded}
-use Rattle.interp.specs.Heights.{frames, entries, locals, operands}
-use Rattle.interp.specs.Machine.{Machine, Running, Done, Trapped, Stuck, run}
+use Rattle.semantics.specs.Heights.{frames, entries, locals, operands}
+use Rattle.semantics.specs.Machine.{Machine, Running, Done, Trapped, Stuck, run}
 use Rattle.interp.specs.Room.{CallsStayWithin, most_entries, most_locals}
-use Rattle.interp.specs.Start.{Starts, StartsFrom}
+use Rattle.semantics.specs.Start.{Starts, StartsFrom}
 use Rattle.interp.specs.inside.Begun.{EndsEachWithin, EndsInRoom, HasRoom, HasStartRoom}
 use Rattle.interp.specs.inside.Place.{Room}
 use Rattle.interp.specs.inside.Walk.{IsWithinRoom}
-use Rattle.interp.proofs.Fixed.{sizes_there}
+use Rattle.semantics.proofs.Fixed.{sizes_there}
 use Rattle.interp.proofs.Functions.{of_defined}
 use Rattle.interp.proofs.Limited.{HostEffectKeeps, Lasts, MachineWithin, few_held, few_entries, run_within}
-use Rattle.interp.proofs.OneEnd.{one_start}
-use Rattle.interp.proofs.Told.{facts_hold}
-use Rattle.interp.proofs.Whole.{calls_end}
+use Rattle.semantics.proofs.OneEnd.{one_start}
+use Rattle.semantics.proofs.Told.{facts_hold}
+use Rattle.semantics.proofs.Whole.{calls_end}
 
 -- ---- what lasts
 

@@ -11,12 +11,12 @@ use Rattle.wasm_ast.specs.Code.{Code}
 use Rattle.wasm_ast.specs.Code as code
 use Rattle.wasm_ast.specs.Values.{zero_of}
 use Rattle.verified.specs.Operands.{number, with_number}
-use Rattle.interp.specs.Configuration.{State, with_locals, tick, Effect, Gives, Traps, Misses}
-use Rattle.interp.specs.Effects.{effect}
-use Rattle.interp.specs.Machine as machine
-use Rattle.interp.specs.Machine.{Machine, Running, Done, Trapped, Stuck, ControlEntry, Label, Frame, Callee, defined, functions_of, landed, arrive, jump, back, leave, label_of, taking, branch_unless_zero, take_branch, has_result, arm, gives_one, after_effect, take_call, next_units, first, carry, advance, run}
+use Rattle.semantics.specs.Configuration.{State, with_locals, tick, Effect, Gives, Traps, Misses}
+use Rattle.semantics.specs.Effects.{effect}
+use Rattle.semantics.specs.Machine as machine
+use Rattle.semantics.specs.Machine.{Machine, Running, Done, Trapped, Stuck, ControlEntry, Label, Frame, Callee, defined, functions_of, landed, arrive, jump, back, leave, label_of, taking, branch_unless_zero, take_branch, has_result, arm, gives_one, after_effect, take_call, next_units, first, carry, advance, run}
 use Rattle.interp.specs.Sequences.{IsIn}
-use Rattle.interp.proofs.Reach.{Exit, Falls, Branches, Returns, arrives}
+use Rattle.semantics.proofs.Reach.{Exit, Falls, Branches, Returns, arrives}
 
 -- ---- one step
 

@@ -10,8 +10,8 @@ use Rattle.wasm_ast.specs.Limits.{is_function, is_function_description}
 use Rattle.verified.specs.declared.imports.HostCall.{HostCall}
 use Rattle.verified.specs.Imports.{call_of}
 use Rattle.verified.specs.Weights.{host_units, call_units}
-use Rattle.interp.specs.Machine.{Callee, host, function_import}
-use Rattle.interp.specs.Machine as machine
+use Rattle.semantics.specs.Machine.{Callee, host, function_import}
+use Rattle.semantics.specs.Machine as machine
 use Rattle.interp.specs.inside.Meaning.{host_callee, AreImports}
 
 abbrev named : Import → Callee

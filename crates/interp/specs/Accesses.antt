@@ -13,8 +13,8 @@ use Rattle.verified.specs.declared.call.CallInput.{CallInput}
 use Rattle.verified.specs.Modules.{IsTyped}
 use Rattle.verified.specs.Profile.{IsBounded}
 use Rattle.verified.specs.Reached.{Access, is_reached}
-use Rattle.interp.specs.Machine.{Machine, Running, run}
-use Rattle.interp.specs.Start.{Starts}
+use Rattle.semantics.specs.Machine.{Machine, Running, run}
+use Rattle.semantics.specs.Start.{Starts}
 
 -- the bytes that a load or a store touches, by the operands: it begins at the address with the offset added; a store's
 -- address is below the value that it stores

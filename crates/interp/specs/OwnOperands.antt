@@ -7,9 +7,9 @@ use Rattle.verified.specs.declared.call.CallInput.{CallInput}
 use Rattle.verified.specs.Modules.{IsTyped}
 use Rattle.verified.specs.Cells.{IsDefined, MayRun, own_height}
 use Rattle.verified.specs.Profile.{IsBounded}
-use Rattle.interp.specs.Heights.{frames}
-use Rattle.interp.specs.Machine.{ControlEntry, Label, Frame, Machine, Running, Done, Trapped, Stuck, advance, run}
-use Rattle.interp.specs.Start.{Starts}
+use Rattle.semantics.specs.Heights.{frames}
+use Rattle.semantics.specs.Machine.{ControlEntry, Label, Frame, Machine, Running, Done, Trapped, Stuck, advance, run}
+use Rattle.semantics.specs.Start.{Starts}
 
 -- the number of own operands of each active function, the innermost first, where the innermost has `here` above the
 -- entries

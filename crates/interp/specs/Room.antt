@@ -9,10 +9,10 @@ use Rattle.verified.specs.Modules.{IsTyped}
 use Rattle.verified.specs.Profile.{IsBounded}
 use Rattle.verified.specs.Facts.{AreFacts}
 use Rattle.verified.specs.declared.facts.Facts.{Facts}
-use Rattle.interp.specs.Call.{ComesTo, Outcome}
-use Rattle.interp.specs.Heights.{entries, locals}
-use Rattle.interp.specs.Machine.{Machine, run}
-use Rattle.interp.specs.Start.{Starts}
+use Rattle.semantics.specs.Call.{ComesTo, Outcome}
+use Rattle.semantics.specs.Heights.{entries, locals}
+use Rattle.semantics.specs.Machine.{Machine, run}
+use Rattle.semantics.specs.Start.{Starts}
 
 -- the most control entries of this many frames: their labels, and the frames
 abbrev pub most_entries : ℕ → ℕ

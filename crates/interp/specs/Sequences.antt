@@ -12,9 +12,9 @@ use Rattle.verified.specs.Kinds.{Kind}
 use Rattle.verified.specs.Known.{Known}
 use Rattle.verified.specs.Profile.{IsBounded, asks_all}
 use Rattle.verified.specs.Shapes.{Everywhere, NotIndirect, NotUnreachable, NotGrow, LoopTakes}
-use Rattle.interp.specs.Configuration.{State}
-use Rattle.interp.specs.Machine.{ControlEntry, Machine, Running, Done, Trapped, Stuck, jump, back, run}
-use Rattle.interp.specs.Typed.{HasKinds, IsTop, Sound, items_left}
+use Rattle.semantics.specs.Configuration.{State}
+use Rattle.semantics.specs.Machine.{ControlEntry, Machine, Running, Done, Trapped, Stuck, jump, back, run}
+use Rattle.semantics.specs.Typed.{HasKinds, IsTop, Sound, items_left}
 
 -- The sequence keeps the rules of the profile that hold for each sequence. It takes operands of kinds `from` to those
 -- of `to`, in a function with these locals and this result. The blocks round it have these results, the innermost

@@ -1,4 +1,4 @@
-//! Compute calls: the reduction of WebAssembly (Core 1.0, section 4) over modules in the bounded profile.
+//! Compute calls: runs modules in the bounded profile as crate `semantics` says (Core 1.0, section 4).
 #![tactic(auto)]
 
 mod call_globals;
@@ -23,8 +23,7 @@ mod straight;
 mod walk;
 
 pub use laws::{
-    an_end_stays, calls_are_a_function, calls_end, calls_keep_own_operands, calls_stay_within,
-    calls_touch_reached_bytes, instructions_are_counted, one_outcome, sequences_count,
+    calls_keep_own_operands, calls_stay_within, calls_touch_reached_bytes, sequences_count,
 };
 pub use runs::{has_ids, run};
 pub use scratch::Scratch;

@@ -3,16 +3,18 @@
 ghost use Rattle.std.specs.Prelude.{◌≡◌, ◌++◌, ◌+◌, ◌*◌, ◌/◌, ◌<◌, ◌≤◌, Some, length, replicate, option_map, take, drop, true, IfOk};
 ghost use Rattle.wasm_ast.specs.Widths.{load_type, load_width, store_width};
 ghost use Rattle.verified.specs.Memory.{bytes_of, max_minimum, memory_bytes, page};
-ghost use Rattle.interp.specs.Effects.{value};
-ghost use Rattle.interp.specs.Memory.{number_of_bytes, sign_extended, loaded};
+ghost use Rattle.semantics.specs.Effects.{value};
+ghost use Rattle.semantics.specs.Memory.{number_of_bytes, sign_extended, loaded};
 ghost use Rattle.interp.specs.inside.Cells.{in_width};
-ghost use Rattle.interp.specs.inside.Kept.{count_kept, is_kept, kept_laid, kept_read, kept_write, laid_over, marked_before, marks, masked};
+ghost use Rattle.interp.specs.inside.Kept.{count_kept, is_kept, kept_laid, kept_read, kept_write, laid_over, marked_before, masked};
+ghost use Rattle.semantics.specs.inside.Touched.{marks};
 
 use crate::cell::of_i32;
+use numeric_values::i64_extend_i32_s;
 use std::alloc::{AllocError, Global};
 use std::marker::Model;
 use verified::Verified;
-use wasm_ast::{Limits, Load, Store, i64_extend_i32_s};
+use wasm_ast::{Limits, Load, Store};
 
 /// The bytes of the memory that loads and stores of the module reach, and the place of each. Its model is a list of
 /// all bytes, which marks those that are not kept.
@@ -24,7 +26,8 @@ pub struct Memory<'a> {
 
 impl<'a> Model for Memory<'a> {
     ghost use Rattle.std.specs.Prelude.{◌≡◌, ℕ, List, length};
-    ghost use Rattle.interp.specs.inside.Kept.{count_kept, marks, spread};
+    ghost use Rattle.interp.specs.inside.Kept.{count_kept, spread};
+    ghost use Rattle.semantics.specs.inside.Touched.{marks};
 
     ghost Value = { List ℕ };
 

@@ -13,11 +13,12 @@ ghost use Rattle.wasm_ast.specs.declared.types.ValType.TheVariants.{I32 as i32_t
 use crate::cell::{as_i32, of_i32};
 use crate::operand_stack::{pop, push};
 use crate::plain::Acted;
-use verified::plain_units;
-use wasm_ast::{
-    Binary, Comparison, Conversion, Division, Numeric, Plain, Unary, ValType, i32_eqz,
-    i32_wrap_i64, i64_eqz, i64_extend_i32_s, i64_extend_i32_u,
+use numeric_values::{
+    i32_binary, i32_comparison_holds, i32_division, i32_eqz, i32_unary, i32_wrap_i64, i64_binary,
+    i64_comparison_holds, i64_division, i64_eqz, i64_extend_i32_s, i64_extend_i32_u, i64_unary,
 };
+use verified::plain_units;
+use wasm_ast::{Binary, Comparison, Conversion, Division, Numeric, Plain, Unary, ValType};
 
 /// Pops the operands of a numeric instruction and pushes its result; the contract requires that it does not trap.
 #[inline(always)]
@@ -85,8 +86,8 @@ fn act_comparison(of: ValType, comparison: Comparison, cells: &mut [u64], top: u
     let (second, under) = pop(cells, top);
     let (first, below) = pop(cells, under);
     let holds = match of {
-        ValType::I32 => comparison.holds_i32(as_i32(first), as_i32(second)),
-        ValType::I64 => comparison.holds_i64(first, second),
+        ValType::I32 => i32_comparison_holds(comparison, as_i32(first), as_i32(second)),
+        ValType::I64 => i64_comparison_holds(comparison, first, second),
     };
     push(cells, below, of_i32(u32::from(holds)))
 }
@@ -101,8 +102,8 @@ fn act_unary(of: ValType, unary: Unary, cells: &mut [u64], top: usize) -> usize
 {
     let (cell, below) = pop(cells, top);
     let answer = match of {
-        ValType::I32 => of_i32(unary.apply_i32(as_i32(cell))),
-        ValType::I64 => unary.apply_i64(cell),
+        ValType::I32 => of_i32(i32_unary(unary, as_i32(cell))),
+        ValType::I64 => i64_unary(unary, cell),
     };
     push(cells, below, answer)
 }
@@ -118,8 +119,8 @@ fn act_binary(of: ValType, binary: Binary, cells: &mut [u64], top: usize) -> usi
     let (second, under) = pop(cells, top);
     let (first, below) = pop(cells, under);
     let answer = match of {
-        ValType::I32 => of_i32(binary.apply_i32(as_i32(first), as_i32(second))),
-        ValType::I64 => binary.apply_i64(first, second),
+        ValType::I32 => of_i32(i32_binary(binary, as_i32(first), as_i32(second))),
+        ValType::I64 => i64_binary(binary, first, second),
     };
     push(cells, below, answer)
 }
@@ -153,7 +154,7 @@ fn divide_i32(division: Division, cells: &mut [u64], top: usize) -> usize
     push(
         cells,
         below,
-        of_i32(division.apply_i32(as_i32(first), as_i32(second))),
+        of_i32(i32_division(division, as_i32(first), as_i32(second))),
     )
 }
 
@@ -168,7 +169,7 @@ fn divide_i64(division: Division, cells: &mut [u64], top: usize) -> usize
 {
     let (second, under) = pop(cells, top);
     let (first, below) = pop(cells, under);
-    push(cells, below, division.apply_i64(first, second))
+    push(cells, below, i64_division(division, first, second))
 }
 
 #[inline(always)]

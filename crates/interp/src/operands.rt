@@ -2,7 +2,7 @@
 
 ghost use Rattle.std.specs.Prelude.{◌≡◌, ◌∷◌, ◌++◌, ◌-◌, ◌≤◌, [], Some, length, map, take, drop, reverse, option_map, IfOk, IsSome};
 ghost use Rattle.wasm_ast.specs.declared.types.Value.TheVariants.{I64};
-ghost use Rattle.interp.specs.Machine.{first, carry};
+ghost use Rattle.semantics.specs.Machine.{first, carry};
 ghost use Rattle.interp.specs.inside.Split.{HasSpare};
 
 use std::alloc::{AllocError, Global};

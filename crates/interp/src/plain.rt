@@ -13,7 +13,7 @@ ghost use Rattle.interp.specs.inside.Cells.{cell_effect, cell_memory, in_width};
 ghost use Rattle.interp.specs.inside.Going.{has_tops, memory_asks, of_next, of_top, plain_asks, reaches, variable_asks};
 ghost use Rattle.interp.specs.inside.Kept.{count_kept};
 ghost use Rattle.interp.specs.inside.OperandStack.{operand_stack};
-ghost use Rattle.interp.specs.Effects.{variable_effect};
+ghost use Rattle.semantics.specs.Effects.{variable_effect};
 
 use crate::call_globals::CallGlobals;
 use crate::cell::{as_i32, as_number, of_i32, of_value};

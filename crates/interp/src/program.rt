@@ -7,7 +7,7 @@ ghost use Rattle.verified.specs.Weights.{call_units};
 ghost use Rattle.verified.specs.Modules.{IsTyped};
 ghost use Rattle.verified.specs.Profile.{IsBounded};
 ghost use Rattle.interp.specs.inside.Begun.{IsDefinedAt};
-ghost use Rattle.interp.specs.Machine.{defined, functions_of};
+ghost use Rattle.semantics.specs.Machine.{defined, functions_of};
 ghost use Rattle.interp.specs.inside.Meaning.{AreImports, HasOwnBody, callee_of};
 
 use verified::{FlatBody, HostCall, Verified, host_units};

@@ -4,8 +4,8 @@ ghost use Rattle.std.specs.Prelude.{◌≡◌, ◌↔◌, ◌+◌, ◌*◌, ◌�
 ghost use Rattle.wasm_ast.specs.Limits.{IsWithinLimits};
 ghost use Rattle.verified.specs.Bodies.{bodies_of};
 ghost use Rattle.interp.specs.inside.Begun.{BeginsWith, EndsInRoom, HasStartRoom, Sends};
-ghost use Rattle.interp.specs.Bounded.{HasIds, IsWithinBound, NeverFails, items_of};
-ghost use Rattle.interp.specs.Call.{IsOutcome};
+ghost use Rattle.semantics.specs.Bounded.{HasIds, IsWithinBound, NeverFails, items_of};
+ghost use Rattle.semantics.specs.Call.{IsOutcome};
 ghost use Rattle.interp.specs.Room.{IsSilent};
 ghost use Rattle.interp.specs.inside.Meaning.{AreImports};
 ghost use Rattle.interp.specs.inside.Walk.{max_count};

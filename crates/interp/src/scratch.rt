@@ -5,7 +5,7 @@ ghost use Rattle.wasm_ast.specs.Limits.{IsWithinLimits, max_locals};
 ghost use Rattle.verified.specs.Modules.{IsTyped};
 ghost use Rattle.verified.specs.Profile.{IsBounded};
 ghost use Rattle.verified.specs.Bodies.{bodies_of};
-ghost use Rattle.interp.specs.Call.{IsOutcome};
+ghost use Rattle.semantics.specs.Call.{IsOutcome};
 ghost use Rattle.interp.specs.Room.{most_entries, most_locals};
 ghost use Rattle.interp.specs.inside.Begun.{BeginsWith, EndsEachWithin, HasRoom, Sends};
 ghost use Rattle.interp.specs.inside.Meaning.{AreImports};

@@ -4,7 +4,7 @@ ghost use Rattle.std.specs.Prelude.{◌≡◌, ◌+◌, ◌^◌, ◌<◌, ◌≤
 ghost use Rattle.wasm_ast.specs.Limits.{IsWithinLimits};
 ghost use Rattle.verified.specs.Bodies.{bodies_of};
 ghost use Rattle.verified.specs.View.{code_of, then_code};
-ghost use Rattle.interp.specs.Machine.{next_units};
+ghost use Rattle.semantics.specs.Machine.{next_units};
 ghost use Rattle.interp.specs.inside.Cells.{cell_advance, in_width, of_any_width};
 ghost use Rattle.interp.specs.inside.Going.{goes_on, is_going};
 ghost use Rattle.interp.specs.inside.Meaning.{AreImports};

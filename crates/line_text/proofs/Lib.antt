@@ -1,3 +1,4 @@
 pub mod Cut
 pub mod Numbers
+pub mod Pieces
 pub mod Writing

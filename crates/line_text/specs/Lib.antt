@@ -1,4 +1,5 @@
--- The definitions to read, in this order: the fields of a line, its numbers, and the bytes that a writer took.
+-- The definitions to read, in this order: the fields of a line, its numbers, the bytes that a writer took, and texts of pieces.
 pub mod Fields
 pub mod Number
 pub mod Output
+pub mod TextBuilder

@@ -1,10 +1,12 @@
-//! Lines of text: the fields of a line, the numbers in them, and writers of bytes.
+//! Lines of text: the fields of a line, the numbers in them, writers of bytes, and texts of pieces.
 #![tactic(auto)]
 
 mod fields;
 mod number;
 mod output;
+mod text_builder;
 
 pub use fields::Fields;
 pub use number::{id_of, number_of};
 pub use output::{Output, WriteFailure, write_all};
+pub use text_builder::TextBuilder;

@@ -6,7 +6,7 @@ use Rattle.std.specs.List.{AllByRecursion, flat_map}
 use Rattle.std.specs.Str.{bytes_eq, all_ascii_digits}
 use Rattle.verified.specs.declared.call.CallInput.{CallInput}
 use Rattle.line_text.specs.Number.{id_of, number_of}
-use Rattle.interp.specs.Bounded.{HasIds, max_id}
+use Rattle.semantics.specs.Bounded.{HasIds, max_id}
 use Rattle.call_lines.specs.declared.input.Input.{Input}
 use Rattle.call_lines.specs.declared.input_line.Line.{Line}
 use Rattle.call_lines.specs.declared.input_line.Line.TheVariants.{Skipped, Id, Superstep, Count, Value, Message, Edge, Aggregate, Bad}

@@ -5,9 +5,9 @@ use Rattle.wasm_ast.specs.Values.{zero_of}
 use Rattle.verified.specs.declared.call.CallInput.{CallInput}
 use Rattle.verified.specs.declared.call.CallOutcome.{CallOutcome}
 use Rattle.verified.specs.Host.{Host, host_of}
-use Rattle.interp.specs.Machine.{Machine, Running}
-use Rattle.interp.specs.Start.{Starts}
-use Rattle.interp.specs.Call.{IsOutcome, SameOutcome}
+use Rattle.semantics.specs.Machine.{Machine, Running}
+use Rattle.semantics.specs.Start.{Starts}
+use Rattle.semantics.specs.Call.{IsOutcome, SameOutcome}
 use Rattle.call_lines.specs.OutputLines.{outcome_lines}
 use Rattle.call_lines.specs.Input.{Means, SameInput}
 use Rattle.call_lines.proofs.Meanings.{same_input}

@@ -3,7 +3,7 @@ use Rattle.std.specs.Prelude.{◌≡◌, ◌⊎◌, ℕ, Bool, List}
 use Rattle.wasm_ast.specs.declared.module.Module.{Module}
 use Rattle.verified.specs.declared.call.CallInput.{CallInput}
 use Rattle.verified.specs.declared.call.CallOutcome.{CallOutcome}
-use Rattle.interp.specs.Call.{IsOutcome}
+use Rattle.semantics.specs.Call.{IsOutcome}
 use Rattle.call_lines.specs.InputSays.{lines_of}
 use Rattle.call_lines.specs.Input.{Means}
 use Rattle.call_lines.specs.InputFaults.{IsInputFault}

@@ -12,7 +12,7 @@ use Rattle.job_state.specs.declared.settings.Settings.{Settings}
 use Rattle.superstep.specs.Ending.{is_finished}
 use Rattle.job_state.specs.Faults.{fault_word}
 use Rattle.superstep.specs.Job.{IsCount, IsEdgeCount, Work}
-use Rattle.rollback.specs.declared.report.Report.{Report}
+use Rattle.book.specs.declared.report.Report.{Report}
 use Rattle.call_lines.specs.OutputLines.{end_word, ended_lines}
 use Rattle.sources.specs.declared.fault.CommandFault.{CommandFault}
 use Rattle.sources.specs.declared.fault.CommandFault.TheVariants as command

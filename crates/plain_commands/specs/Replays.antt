@@ -8,7 +8,7 @@ use Rattle.rollback.specs.Simulation.{IsCalm, IsRun, IsSimulated}
 use Rattle.control.specs.declared.answer.Answer.{Answer}
 use Rattle.control.specs.declared.answer.Answer.TheVariants.{Advanced, RolledBack, Stale, Taken}
 use Rattle.control.specs.declared.answer.Answer.TheVariants as answer
-use Rattle.rollback.specs.declared.report.Report.{Report}
+use Rattle.book.specs.declared.report.Report.{Report}
 use Rattle.rollback.specs.declared.simulation.Outcome.{Outcome}
 use Rattle.rollback.specs.declared.simulation.Outcome.TheVariants as outcome
 use Rattle.rollback.specs.declared.simulation.Step.{Step}

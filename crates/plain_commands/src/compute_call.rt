@@ -2,8 +2,8 @@
 
 ghost use Rattle.std.specs.Prelude.{List, ℕ, IfOk, IfErr};
 ghost use Rattle.wasm_ast.specs.declared.module.Module.{Module as AnyModule};
-ghost use Rattle.interp.specs.Bounded.{HasIds};
-ghost use Rattle.interp.specs.Call.{IsOutcome};
+ghost use Rattle.semantics.specs.Bounded.{HasIds};
+ghost use Rattle.semantics.specs.Call.{IsOutcome};
 ghost use Rattle.call_lines.specs.OutputLines.{IfText};
 ghost use Rattle.sources.specs.Modules.{IsSpelledBy, IsVerified};
 ghost use Rattle.sources.specs.Source.{IsWant, content, is_text};

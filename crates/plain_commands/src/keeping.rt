@@ -7,13 +7,12 @@ ghost use Rattle.sources.specs.Reading.{IsUnread};
 ghost use Rattle.sources.specs.declared.fault.CommandFault.TheVariants.{Resume};
 ghost use Rattle.plain_commands.specs.Keeping.{IsNoFolder, IsNotReady, IsUnidentified};
 
-use checkpoint::{FileKeep, JobId, Kinship, compare, digest_of, job_text, replace};
+use checkpoint::{Device, FileKeep, Folder, JobId, Kinship, compare, digest_of, job_text};
 use requests::{JobRequest, RunRequest};
 use sources::{CommandFault, Files, read_bytes};
 use std::alloc::{AllocError, Global};
-use std::fs::File;
+use std::io;
 use std::io::ErrorKind;
-use std::{fs, io};
 use superstep::Settings;
 
 /// Makes ready the folder in which a run keeps its states, and gives its Keep. Where the run is to go on with what an earlier one
@@ -23,7 +22,7 @@ use superstep::Settings;
 /// them. `Resume`: the run is to go on, and `job.json` is of another job or reads as none, or the checkpoint is not below the
 /// limit. Why is a warning.
 pub fn keep_in<'a, F: Files>(
-    rt: &(impl std::rt::Files + AllocGlobal),
+    rt: &(impl Folder + Device),
     alloc: Global,
     asked: RunRequest<'a>,
     folder: &'a str,
@@ -45,7 +44,7 @@ pub fn keep_in<'a, F: Files>(
 
 // Makes a folder ready. Answers whether the run goes on with what is there.
 fn make_ready<'a, F: Files>(
-    rt: &(impl std::rt::Files + AllocGlobal),
+    rt: &(impl Folder + Device),
     alloc: Global,
     asked: RunRequest<'a>,
     folder: &'a str,
@@ -72,16 +71,13 @@ fn make_ready<'a, F: Files>(
 }
 
 // Whether what is at a path can be read once only, as a pipe.
-fn is_stream(rt: &impl std::rt::Files, path: &str) -> bool {
-    match fs::metadata(rt, path) {
-        Ok(metadata) => !metadata.is_file(),
-        Err(_) => false,
-    }
+fn is_stream(rt: &impl Folder, path: &str) -> bool {
+    matches!(rt.is_file(path), Ok(false))
 }
 
 // Settles of which job the checkpoints of a folder are. Answers whether the run goes on with them, or nothing where it may not.
 fn settle<F: Files>(
-    rt: &(impl std::rt::Files + AllocGlobal),
+    rt: &(impl Folder + Device),
     alloc: Global,
     asked: RunRequest<'_>,
     folder: &str,
@@ -102,7 +98,7 @@ fn settle<F: Files>(
 
 // Settles it for a job that is identified.
 fn settle_known<F: Files>(
-    rt: &(impl std::rt::Files + AllocGlobal),
+    rt: &(impl Folder + Device),
     alloc: Global,
     asked: RunRequest<'_>,
     folder: &str,
@@ -126,7 +122,7 @@ fn settle_known<F: Files>(
 
 // Settles it for a job that is not identified: no checkpoint is of it.
 fn settle_unknown<F: Files>(
-    rt: &(impl std::rt::Files + AllocGlobal),
+    rt: &impl Folder,
     alloc: Global,
     resumes: bool,
     folder: &str,
@@ -168,7 +164,7 @@ fn no_folder<'a, F: Files>(folder: &'a str, error: &io::Error, files: &mut F) ->
 
 // Identifies the job of the module in one file over the graph in another, where both can be read twice.
 fn identify<'a, F: Files>(
-    rt: &impl std::rt::Files,
+    rt: &impl Folder,
     alloc: Global,
     asked: JobRequest<'a>,
     files: &mut F,
@@ -205,13 +201,13 @@ fn file_digest<'a, F: Files>(
 
 // What the folder's `job.json` says of a job, where there is one.
 fn kinship_in(
-    rt: &(impl std::rt::Files + AllocGlobal),
+    rt: &impl Folder,
     alloc: Global,
     folder: &str,
     job: &JobId,
 ) -> io::Result<Option<Kinship>> {
     let path = path_in(alloc, folder, "job.json")?;
-    match fs::read_to_string(rt, path.as_str()) {
+    match rt.read_text(path.as_str()) {
         Ok(text) => Ok(Some(compare(alloc, text.as_str(), job)?)),
         Err(error) => match error.kind() {
             ErrorKind::NotFound => Ok(None),
@@ -257,7 +253,7 @@ fn refusal_of(found: Option<Kinship>) -> Option<&'static str> {
 
 // Leaves no checkpoint in a folder that a later run could take for one of this job, and no `job.json`. What is of this job stays.
 fn clear<F: Files>(
-    rt: &(impl std::rt::Files + AllocGlobal),
+    rt: &impl Folder,
     alloc: Global,
     resumes: bool,
     found: Option<Kinship>,
@@ -276,13 +272,9 @@ fn clear<F: Files>(
 }
 
 // Removes the folder's `job.json`, where there is one.
-fn remove_job(
-    rt: &(impl std::rt::Files + AllocGlobal),
-    alloc: Global,
-    folder: &str,
-) -> io::Result<()> {
+fn remove_job(rt: &impl Folder, alloc: Global, folder: &str) -> io::Result<()> {
     let path = path_in(alloc, folder, "job.json")?;
-    let Err(error) = fs::remove_file(rt, path.as_str()) else {
+    let Err(error) = rt.remove_file(path.as_str()) else {
         return Ok(());
     };
     match error.kind() {
@@ -318,7 +310,7 @@ fn warn_of_aside<F: Files>(count: usize, folder: &str, files: &mut F)
 
 // Writes `job.json`. Where that fails the job goes on, and no later run can go on with its states.
 fn note_job<F: Files>(
-    rt: &(impl std::rt::Files + AllocGlobal),
+    rt: &impl Device,
     alloc: Global,
     folder: &str,
     job: &JobId,
@@ -333,7 +325,7 @@ fn note_job<F: Files>(
 }
 
 fn write_job(
-    rt: &(impl std::rt::Files + AllocGlobal),
+    rt: &impl Device,
     alloc: Global,
     folder: &str,
     job: &JobId,
@@ -343,19 +335,12 @@ fn write_job(
     text.push('\n')?;
     let part = path_in(alloc, folder, "job.part")?;
     let whole = path_in(alloc, folder, "job.json")?;
-    let mut file = File::create(rt, part.as_str())?;
-    replace(
-        rt,
-        &mut file,
-        part.as_str(),
-        whole.as_str(),
-        text.as_bytes(),
-    )
+    rt.write_whole(part.as_str(), whole.as_str(), text.as_bytes())
 }
 
 // Finds the newest checkpoint in a folder, and tells where the job begins.
 fn find_in<'a, F: Files>(
-    rt: &(impl std::rt::Files + AllocGlobal),
+    rt: &impl Folder,
     alloc: Global,
     settings: Settings,
     folder: &'a str,

@@ -3,7 +3,7 @@
 ghost use Rattle.std.specs.Prelude.{◌≡◌, false, List, ℕ};
 ghost use Rattle.plain_commands.specs.ComputeCall.{IsCallAnswer};
 
-use interp::one_outcome;
+use semantics::one_outcome;
 use wasm_decode::spells_one_module;
 
 /// Shows that the bytes of a module and the text of an input have one answer.

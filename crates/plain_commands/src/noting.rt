@@ -5,8 +5,8 @@ ghost use Rattle.run_report.specs.Tally.{capped};
 ghost use Rattle.plain_commands.specs.Notes.{HasNoted, IsOfEnd, IsOfFault, IsOfJob, IsOutcomeOf, IsOutcomeOfFault, IsReportOf, NotesOnly, settings_in};
 
 use crate::watching::Watch;
+use book::Report;
 use call_lines::end_word;
-use rollback::Report;
 use run_report::{Ended, Outcome, RunReport, RunSettings, Tally, capped};
 use std::alloc::{AllocError, Global};
 use std::sync::Wait;

@@ -11,7 +11,7 @@ use Rattle.std.proofs.lemmas.List.Elements.{filter-append}
 use Rattle.std.proofs.lemmas.List.Sums.{sum_by-append, sum_by-cons}
 use Rattle.std.proofs.lemmas.Map.Keys.{below_from_sorted, sorted_from_strictly_increasing}
 use Rattle.std.proofs.lemmas.Simd.{map-map}
-use Rattle.interp.specs.Call.{Outcome}
+use Rattle.semantics.specs.Call.{Outcome}
 use Rattle.inbox.proofs.Delivery.{other_id}
 use Rattle.superstep.specs.Snapshot.{Row, row_id}
 use Rattle.superstep.specs.Superstep.{dropped_by, messages_to, is_sent_to, sent_to}

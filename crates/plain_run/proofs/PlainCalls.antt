@@ -7,8 +7,8 @@ use Rattle.std.proofs.lemmas.List.Concat.{flat_map-append}
 use Rattle.std.proofs.lemmas.List.Edits.{map_over_more}
 use Rattle.std.proofs.lemmas.List.Elements.{All-get_or}
 use Rattle.std.proofs.lemmas.List.Sums.{fold-append, sum_by_push}
-use Rattle.interp.specs.Call.{Outcome}
-use Rattle.interp.specs.Outcomes.{Given}
+use Rattle.semantics.specs.Call.{Outcome}
+use Rattle.semantics.specs.Outcomes.{Given}
 use Rattle.graph.specs.Entry.{Entry}
 use Rattle.verified.specs.Aggregators.{aggregator_starts}
 use Rattle.plain_run.specs.declared.machine.Held.{Held}
@@ -18,7 +18,7 @@ use Rattle.job_state.specs.State.{capped}
 use Rattle.superstep.specs.Folds.{aggregated, give}
 use Rattle.superstep.specs.Snapshot.{Row, is_called}
 use Rattle.superstep.specs.Superstep.{contributions_of, idle, units_left}
-use Rattle.superstep.specs.inside.PartOutput.{HasProperIds, left_in}
+use Rattle.superstep.specs.inside.Called.{HasProperIds, left_in}
 use Rattle.plain_run.specs.inside.OneMachine.{AreLeft, Calls, Leaves, called_row, entries_in, entry_in, messages_of, row_in, rows_in}
 
 -- ---- vertices in their list

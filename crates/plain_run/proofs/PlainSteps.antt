@@ -7,8 +7,8 @@ use Rattle.std.proofs.lemmas.Bool.{cases_lt}
 use Rattle.std.proofs.lemmas.List.{get_or-map, length-map, map-set}
 use Rattle.std.proofs.lemmas.List.FromFn.{map-range_with_len_more}
 use Rattle.std.proofs.lemmas.Simd.{map-map}
-use Rattle.interp.specs.Call.{Outcome}
-use Rattle.interp.specs.Outcomes.{AreOutcomes, Given}
+use Rattle.semantics.specs.Call.{Outcome}
+use Rattle.semantics.specs.Outcomes.{AreOutcomes, Given}
 use Rattle.graph.specs.declared.parts.Part.{Part}
 use Rattle.graph.specs.declared.vertex.Vertex.{Vertex}
 use Rattle.graph.specs.Entry.{Entry, IsProper, ids}
@@ -24,7 +24,7 @@ use Rattle.superstep.specs.Job.{IsGraphOf, Meaning, Work}
 use Rattle.superstep.specs.PlainRun.{state_at, units_at}
 use Rattle.superstep.specs.Snapshot.{Row, Snapshot, is_called, is_quiet, row_id, row_ids, values_of}
 use Rattle.superstep.specs.Superstep.{all_left, contributions_of, dropped_by, left_by, row_after, superstep, units_left}
-use Rattle.superstep.specs.inside.PartOutput.{HasProperIds, left_in}
+use Rattle.superstep.specs.inside.Called.{HasProperIds, left_in}
 use Rattle.plain_run.specs.inside.OneMachine.{AreLeft, GivesAnswer, IsAt, IsBegun, IsNext, called_row, entries_in, is_called_in, is_over, lost_in, messages_of, row_in, rows_in, sent_among, snapshot_of, value_in, with_messages}
 use Rattle.plain_run.proofs.Delivering.{Message, all_lost, all_sent, delivered, holding}
 use Rattle.superstep.proofs.Graphs.{one_graph}

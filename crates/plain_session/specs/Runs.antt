@@ -4,7 +4,7 @@ use Rattle.job_state.specs.declared.fault.JobFault.{JobFault}
 use Rattle.job_state.specs.declared.fault.JobFault.TheVariants as job_fault
 use Rattle.superstep.specs.Ending.{IsEndOf}
 use Rattle.superstep.specs.Job.{Work}
-use Rattle.rollback.specs.declared.report.Report.{Report}
+use Rattle.book.specs.declared.report.Report.{Report}
 use Rattle.session.specs.Runs.{Runs}
 
 -- the report has the end of the plain run, and no losses

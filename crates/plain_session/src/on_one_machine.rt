@@ -7,8 +7,8 @@ ghost use Rattle.session.specs.Runs.{EndsAs};
 ghost use Rattle.session.specs.Serving.{Serves};
 ghost use Rattle.plain_session.specs.Runs.{IsPlainEnd, plain};
 
+use book::Report;
 use plain_run::one_machine;
-use rollback::Report;
 use session::{Runner, ServeFault, serve};
 use sources::Files;
 use std::alloc::Global;

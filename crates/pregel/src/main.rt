@@ -11,15 +11,15 @@ mod progress_line;
 use crate::failure_recorder::FailureRecorder;
 use crate::program::execute;
 use crate::progress_line::ProgressLine;
-use checkpoint::Device;
+use checkpoint::{Device, Folder};
 use clap::error::ErrorKind;
 use command_line::options;
 use requests::Options;
 use session::ServeFault;
-use sources::{CommandFault, SystemFiles};
+use sources::{CommandFault, System, SystemFiles};
 use std::io::IsTerminal;
 use std::process::ExitCode;
-use std::rt::{Env, Files};
+use std::rt::Env;
 use std::sync::Wait;
 use std::thread::{Threads, available_parallelism};
 use std::time::Clock;
@@ -41,8 +41,9 @@ fn run(
     rt: &(impl Clock
         + Env
         + Input
-        + Files
+        + System
         + Device
+        + Folder
         + Print
         + Eprint
         + AllocGlobal
@@ -51,25 +52,34 @@ fn run(
         + Sync),
     is_terminal: bool,
 ) -> io::Result<u8> {
-    match env::args(rt) {
-        Ok(arguments) => {
-            let words: Vec<String> = arguments.collect(rt.alloc())?;
-            read_and_execute(rt, words.as_slice(), is_terminal)
-        }
-        Err(error) if error.kind() == io::ErrorKind::InvalidData => {
-            eprintln!(rt; "error: an argument is not in UTF-8")?;
-            Ok(2)
-        }
-        Err(error) => Err(error),
+    match words(rt) {
+        Ok(words) => read_and_execute(rt, words.as_slice(), is_terminal),
+        Err(error) => refuse_arguments(rt, error),
     }
+}
+
+// Reads the words of the command line. The first is the program's name.
+fn words(rt: &(impl Env + AllocGlobal)) -> io::Result<Vec<String>> {
+    let words: Vec<String> = env::args(rt)?.collect(rt.alloc())?;
+    Ok(words)
+}
+
+// Reports an argument that is no text, if that is why there are no words.
+fn refuse_arguments(rt: &impl Eprint, error: io::Error) -> io::Result<u8> {
+    if error.kind() != io::ErrorKind::InvalidData {
+        return Err(error);
+    }
+    eprintln!(rt; "error: an argument is not in UTF-8")?;
+    Ok(2)
 }
 
 // Does what the words ask for; the first is the program's name. Standard error is a terminal or is not.
 fn read_and_execute(
     rt: &(impl Clock
         + Input
-        + Files
+        + System
         + Device
+        + Folder
         + Print
         + Eprint
         + AllocGlobal
@@ -98,8 +108,9 @@ fn refuse_words(rt: &(impl Print + Eprint), error: &clap::Error) -> io::Result<u
 fn execute_asked(
     rt: &(impl Clock
         + Input
-        + Files
+        + System
         + Device
+        + Folder
         + Print
         + Eprint
         + AllocGlobal
@@ -116,7 +127,7 @@ fn execute_asked(
     let mut reader = FailureRecorder::new(rt.reader());
     let mut writer = FailureRecorder::new(io::writer(rt));
     let processors = processors(rt);
-    match execute(
+    let outcome = execute(
         rt,
         rt.alloc(),
         options,
@@ -125,10 +136,21 @@ fn execute_asked(
         &mut files,
         &mut reader,
         &mut writer,
-    ) {
+    );
+    status_after(rt, outcome, reader.failure(), writer.failure())
+}
+
+// Returns the exit status. Where the reader or the writer failed, it reports why.
+fn status_after(
+    rt: &impl Eprint,
+    outcome: Result<u8, ServeFault>,
+    read: Option<io::Error>,
+    written: Option<io::Error>,
+) -> u8 {
+    match outcome {
         Ok(status) => status,
-        Err(ServeFault::Read) => report_failure(rt, "standard input", reader.failure()),
-        Err(ServeFault::Write) => report_failure(rt, "standard output", writer.failure()),
+        Err(ServeFault::Read) => report_failure(rt, "standard input", read),
+        Err(ServeFault::Write) => report_failure(rt, "standard output", written),
         Err(ServeFault::OutOfMemory) => {
             let _ = eprintln!(rt; "pregel: out of memory");
             4

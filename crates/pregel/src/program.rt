@@ -7,7 +7,7 @@ ghost use Rattle.console.specs.FileCommands.{writes_file};
 ghost use Rattle.plain_commands.specs.Sheets.{asks_sheets};
 ghost use Rattle.pregel.specs.Program.{CommandTold, Does, IsCommandTold, may_write};
 
-use checkpoint::Device;
+use checkpoint::{Device, Folder};
 use console::command;
 use line_text::WriteFailure;
 use plain_commands::{RunNotes, write_sheets};
@@ -29,7 +29,7 @@ use workers::NoLoss;
 ///
 /// It fails as `serve` does, and with `Write` where the writer failed as a command was answered.
 pub fn execute<R: Read, W: Write, F: Files, V: View + Sync>(
-    rt: &(impl Wait + Threads + Sync + std::rt::Files + Device + AllocGlobal),
+    rt: &(impl Wait + Threads + Sync + Device + Folder + AllocGlobal),
     alloc: Global,
     options: Options<'_>,
     processors: u32,
@@ -59,7 +59,7 @@ pub fn execute<R: Read, W: Write, F: Files, V: View + Sync>(
 
 // Carries out a command, and writes the report and the chart of a run, where it asks for these.
 fn carry_out_command<W: Write, F: Files, V: View + Sync>(
-    rt: &(impl Wait + Threads + Sync + std::rt::Files + Device + AllocGlobal),
+    rt: &(impl Wait + Threads + Sync + Device + Folder + AllocGlobal),
     alloc: Global,
     request: Request<'_>,
     explains: bool,

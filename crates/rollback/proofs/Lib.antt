@@ -1,10 +1,1 @@
-pub mod Beginning
-pub mod Keeps
-pub mod Kept
-pub mod Opening
-pub mod Reports
-pub mod InSlots
 pub mod Simulated
-pub mod Slices
-pub mod Steps
-pub mod Taking

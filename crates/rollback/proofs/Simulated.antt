@@ -4,7 +4,7 @@ use Rattle.std.specs.Prelude.{Result, Ok, Err, IfOk, option_map, nat_lt}
 use Rattle.std.proofs.lemmas.List.{length-map, map-set, take_more_set}
 use Rattle.std.proofs.Math.Seq.{take-append_seam, take-suc}
 use Rattle.std.proofs.Math.ListN.{set, get_or-map}
-use Rattle.checkpoint.specs.Keep.{HasFailed, LoadsNothingElse}
+use Rattle.checkpoint.specs.Keep.{LoadsNothingElse}
 use Rattle.job_state.specs.declared.fault.JobFault.{JobFault}
 use Rattle.job_state.specs.declared.fault.JobFault.TheVariants.{OutOfMemory}
 use Rattle.job_state.specs.declared.fault.Place.TheVariants.{Report as Reporting}
@@ -21,19 +21,21 @@ use Rattle.rollback.specs.declared.simulation.StepAnswer.{StepAnswer}
 use Rattle.rollback.specs.declared.simulation.StepAnswer.TheVariants.{Handed, Idle, Said}
 use Rattle.control.specs.declared.job_status.JobStatus.{JobStatus}
 use Rattle.control.specs.declared.job_status.JobStatus.TheVariants.{Fault, Finished, Limit, Running}
-use Rattle.rollback.specs.declared.report.Report.{Report}
+use Rattle.book.specs.declared.report.Report.{Report}
 use Rattle.rollback.specs.declared.simulation.Outcome.{Outcome}
 use Rattle.rollback.specs.declared.simulation.Outcome.TheVariants.{Ended as Over, Open}
 use Rattle.rollback.specs.declared.simulation.Trace.{Trace}
-use Rattle.rollback.specs.Saving.{IsCaused, IsKeptStep, IsMadeAt, KeepsFor, MayLoadOther}
+use Rattle.book.specs.Saving.{IsKeptStep, KeepsFor}
+use Rattle.book.specs.Calm.{IsCalmAt, NeverFails}
+use Rattle.book.specs.inside.Counts.{HasSameCounts, LoadsMade}
+use Rattle.book.proofs.Counts.{counts_both, counts_kept, counts_same, loads_made}
 use Rattle.control.specs.Machine.{Machine, hand, handed, has_answer, is_free, is_running, opened, task_of}
 use Rattle.control.specs.Events.{Heard, Stamp, accepted, reply_of}
 use Rattle.control.specs.Events.Stamp.{JoinedBy, LostBy, Ticked}
-use Rattle.rollback.specs.Book.{IsQuietAt, IsReport, IsStep}
+use Rattle.book.specs.Book.{IsQuietAt, IsReport, IsStep}
 use Rattle.control.specs.Stamps.{task_out}
-use Rattle.rollback.proofs.Keeps.{keeps_same}
-use Rattle.rollback.specs.Simulation.{IsCalm, IsCalmAt, IsEnded, IsOutcomeAt, IsSimStep, IsSimulated, IsSimulatedOver, IsTrace, NeverFails, Ran, RanOver, Sim, StepInput, brought, does, without_task, emptied, held_or_new, holds, while_running, new_task, said, sim_opened, sim_step, taken, takes, work_on, worked}
-use Rattle.rollback.specs.inside.Simulating.{HasSameCounts, LoadsMade, stamps, with_none_held}
+use Rattle.rollback.specs.Simulation.{IsCalm, IsEnded, IsOutcomeAt, IsSimStep, IsSimulated, IsSimulatedOver, IsTrace, Ran, RanOver, Sim, StepInput, brought, does, without_task, emptied, held_or_new, holds, while_running, new_task, said, sim_opened, sim_step, taken, takes, work_on, worked}
+use Rattle.rollback.specs.inside.Simulating.{stamps, with_none_held}
 
 -- of any relation of steps and Keeps
 module _ {K : Type 0} (over : Machine → Machine → K → K → Type 0) (work : AnyWork) (honest : ℕ → Bool) where
@@ -181,32 +183,6 @@ tick_told work honest s after reply answer x a = told_sim work honest Tick s s T
 
 -- ---- what is counted
 
-pub counts_both : (a b c : Machine) → HasSameCounts a b → HasSameCounts b c → HasSameCounts a c
-counts_both a b c x y = record { missed = y.missed ∙ x.missed; restarts = y.restarts ∙ x.restarts }
-
-pub never_more : (f f' : ℕ) → f ≡ 0 → f' ≡ 0 → HasFailed f f' → ⊥
-never_more f f' e e' (inl x) = omega (arith, e, e', x)
-never_more f f' e e' (inr x) = omega (arith, e', x)
-
--- what it loads is no other
-never_other : (work : AnyWork) (may_load : List ℕ → Type 0) (m : Machine) (saved : Option ℕ) → LoadsMade work may_load m → m.saved ≡ saved → MayLoadOther work saved may_load → ⊥
-never_other work may_load m None k e h = h
-never_other work may_load m (Some s) k e h =
-    let x = k s e h.0 h.1 in
-    h.2 x.state x.spelled x.fits
-
-pub counts_kept : (work : AnyWork) (may_load : List ℕ → Type 0) (m m' : Machine) (f f' : ℕ) → f ≡ 0 → f' ≡ 0 → LoadsMade work may_load m → IsCaused work m m' f f' may_load → HasSameCounts m m'
-counts_kept work may_load m m' f f' e e' k c = record {
-  missed = elim c.missed [ inl x ↦ x | inr x ↦ absurd (never_more f f' e e' x) ];
-  restarts = elim c.restarts [
-    | inl x ↦ x
-    | inr x ↦ elim x [ inl y ↦ absurd (never_more f f' e e' y) | inr y ↦ absurd (never_other work may_load m m.saved k refl y) ]
-  ];
-}
-
-pub counts_same : (m m' : Machine) → m' ≡ m → HasSameCounts m m'
-counts_same m m' e = record { missed = ap (λ (x : Machine). x.missed) e; restarts = ap (λ (x : Machine). x.restarts) e }
-
 pub counts_handed : (m m' : Machine) (w p : ℕ) → m' ≡ handed m w p → HasSameCounts m m'
 counts_handed m m' w p e = record { missed = ap (λ (x : Machine). x.missed) e; restarts = ap (λ (x : Machine). x.restarts) e }
 
@@ -228,42 +204,15 @@ opened_is work m held quiet e f = rw (e, f) refl
 
 -- ---- what steps leave of the Keep
 
-pub some_of : (a b : ℕ) → Some a ≡ Some b → a ≡ b
-some_of a b e = cc
-
-some_not_none : (a : ℕ) (o : Option ℕ) → o ≡ Some a → o ≡ None → ⊥
-some_not_none a o e f = let z = sym e ∙ f in absurd (cc)
-
 module _ {K : Type 0} (honest : K → Bool) (saved : K → Option ℕ) (may_load : K → List ℕ → Type 0) (faults : K → ℕ) (work : AnyWork) (trusted : ℕ → Bool) where
   abbrev Kept : Machine → Machine → K → K → Type 0
   Kept = IsKeptStep honest saved may_load faults work trusted
-
-  -- the Keep has no part in it
-  pub kept_still : (m m' : Machine) (k : K) → KeepsFor work trusted (honest k) (saved k) (may_load k) m → m'.saved ≡ m.saved → HasSameCounts m m' → Kept m m' k k
-  kept_still m m' k keeps same counts = record {
-    keeps = keeps_same work trusted (honest k) (saved k) (may_load k) m m' same keeps;
-    cause = record { missed = inl counts.missed; restarts = inl counts.restarts };
-    left = inl refl;
-    loads = inl (λ bytes may. may, inl same);
-  }
 
   -- a task was handed out before
   pub kept_handed : (m m1 m' : Machine) (w p : ℕ) (k k' : K) → m1 ≡ handed m w p → Kept m1 m' k k' → Kept m m' k k'
   kept_handed m m1 m' w p k k' e x =
       let y : Kept (handed m w p) m' k k' = subst (λ z. Kept z m' k k') e x in
       record { keeps = y.keeps; cause = record { missed = y.cause.missed; restarts = y.cause.restarts }; left = y.left; loads = y.loads }
-
-  pub loads_made : (m m' : Machine) (k k' : K) → LoadsNothingElse saved may_load → LoadsMade work (may_load k) m → Kept m m' k k' → LoadsMade work (may_load k') m'
-  loads_made m m' k k' one made x = λ s e bytes may. elim x.loads [
-    | inl y ↦ elim y.1 [
-      | inl z ↦ made s (sym z ∙ e) bytes (y.0 bytes may)
-      | inr z ↦ absurd (some_not_none s m'.saved e z)
-    ]
-    | inr y ↦ (let same : m'.superstep ≡ s = some_of m'.superstep s (sym y.1 ∙ e) in
-        let own = y.2 in
-        let is : own.bytes ≡ bytes = one k' s (x.keeps.saved s e) own.bytes bytes own.may may in
-        subst (λ n. IsMadeAt work n bytes) same (subst (λ b. IsMadeAt work m'.superstep b) is own.made))
-  ]
 
   calm_from : (xs : List Step) (s : Sim) (k : K) (answers : List StepAnswer) (after : Sim) (k' : K) → LoadsNothingElse saved may_load → NeverFails faults → LoadsMade work (may_load k) s.machine → RanOver Kept work trusted xs s k answers after k' → HasSameCounts s.machine after.machine
   calm_from [] s k [] after k' one never made r = counts_same s.machine after.machine (ap (λ (z : Sim). z.machine) (sym r.0))
@@ -272,7 +221,7 @@ module _ {K : Type 0} (honest : K → Bool) (saved : K → Option ℕ) (may_load
   calm_from (y ∷ ys) s k (b ∷ bs) after k' one never made r =
       counts_both s.machine r.0.machine after.machine
       (counts_kept work (may_load k) s.machine r.0.machine (faults k) (faults r.1) (never k) (never r.1) made r.3.cause)
-      (calm_from ys r.0 r.1 bs after k' one never (loads_made s.machine r.0.machine k r.1 one made r.3) r.4)
+      (calm_from ys r.0 r.1 bs after k' one never (loads_made honest saved may_load faults work trusted s.machine r.0.machine k r.1 one made r.3) r.4)
 
   calm_run : (quiet : Bool) (xs : List Step) (k : K) (answers : List StepAnswer) (after : Sim) (k' : K) → LoadsNothingElse saved may_load → NeverFails faults → RanOver Kept work trusted xs (sim_opened work quiet) k answers after k' → IsCalmAt after.machine
   calm_run quiet xs k answers after k' one never r =

@@ -1,8 +1,4 @@
--- What a reader has to believe, in this order, after the control model of `control`: the states that a Keep has
-pub mod Saving
--- a book between two events
-pub mod Book
--- a whole run over a list of steps
+-- What a reader has to believe, after the book of `book`: a whole run over a list of steps
 pub mod Simulation
 -- what only mirrors the code, for its proofs
 pub mod inside

@@ -5,7 +5,7 @@ use Rattle.verified.specs.declared.call.CallInput.{CallInput}
 use Rattle.verified.specs.declared.facts.Facts.{Facts}
 use Rattle.verified.specs.Facts.{AreFactsAt}
 use Rattle.verified.specs.Profile.{HasCompute}
-use Rattle.interp.specs.Bounded.{Ends, items_of}
+use Rattle.semantics.specs.Bounded.{Ends, items_of}
 use Rattle.checkpoint.specs.Keep.{LoadsNothingElse}
 use Rattle.job_state.specs.declared.fault.JobFault.{JobFault}
 use Rattle.job_state.specs.declared.fault.JobFault.TheVariants.{OutOfMemory}
@@ -27,8 +27,9 @@ use Rattle.rollback.specs.declared.simulation.Trace.{Trace}
 use Rattle.control.specs.Machine.{Machine, hand, handed, is_free, is_running, opened, task_of}
 use Rattle.control.specs.Events.{Heard, Stamp, accepted, reply_of}
 use Rattle.control.specs.Events.Stamp.{DoneBy, FailedBy, JoinedBy, LostBy, Ticked}
-use Rattle.rollback.specs.Book.{IsQuietAt, IsReport, is_gone}
-use Rattle.rollback.specs.Saving.{IsKeptStep, KeepsFor}
+use Rattle.book.specs.Book.{IsQuietAt, IsReport, is_gone}
+use Rattle.book.specs.Saving.{IsKeptStep, KeepsFor}
+use Rattle.book.specs.Calm.{IsCalmAt, NeverFails}
 
 -- the control model, and the task that each worker holds
 pub record Sim : Type 0 where
@@ -189,18 +190,10 @@ pub record CallsStayWithin (m : Module) : Type 0 where
 
 -- ---- a Keep that never fails
 
--- its device never does
-abbrev pub NeverFails : {K : Type 0} → (K → ℕ) → Type 0
-NeverFails {K} faults = (keep : K) → faults keep ≡ 0
-
 -- no save was missed, and the job never began again
 abbrev pub IsCalm : Outcome → Type 0
 IsCalm (outcome.Open s) = Unit {0}
 IsCalm (outcome.Ended report) = (report.missed ≡ 0) × (report.restarts ≡ 0)
-
--- the same of the model, which may go on
-abbrev pub IsCalmAt : Machine → Type 0
-IsCalmAt m = (m.missed ≡ 0) × (m.restarts ≡ 0)
 
 -- ---- whole runs over a Keep
 

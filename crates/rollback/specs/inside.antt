@@ -1,10 +1,1 @@
-pub mod Book
-pub mod DeviceResults
-pub mod EventStep
-pub mod JobData
-pub mod Loading
-pub mod Parts
-pub mod PartSlots
-pub mod Recovery
-pub mod Reporting
 pub mod Simulating

@@ -1,18 +1,6 @@
-//! The book of a running job: assigned tasks and their results, saved states and rollbacks.
+//! Whole runs of a job over lists of steps, in which workers are lost and join again.
 #![tactic(auto)]
 
-mod book;
-mod job_data;
-mod part_slots;
-mod parts;
-mod recovery;
-mod replies;
-mod report;
-mod saving;
 mod simulation;
 
-pub use book::Book;
-pub use control::{Answer, JobStatus};
-pub use events::Event;
-pub use report::{Report, Status};
 pub use simulation::{Outcome, Step, StepAnswer, Trace, simulate};

@@ -4,29 +4,32 @@ ghost use Rattle.std.specs.Prelude.{◌≡◌, ◌<◌, ℕ, length, replicate, 
 ghost use Rattle.superstep.specs.Job.{Meaning};
 ghost use Rattle.superstep.specs.Tasks.{AreUnitsAt, trusts};
 ghost use Rattle.job_state.specs.declared.fault.JobFault.{JobFault};
-ghost use Rattle.rollback.specs.Book.{IsStep};
+ghost use Rattle.book.specs.Book.{IsStep};
 ghost use Rattle.events.specs.Events.{stamp_of};
 ghost use Rattle.control.specs.Stamps.{task_out};
 ghost use Rattle.control.specs.Events.{accepted};
 ghost use Rattle.checkpoint.specs.Keep.{LoadsNothingElse};
-ghost use Rattle.rollback.specs.Saving.{IsKeptStep, KeepsFor};
+ghost use Rattle.book.specs.Saving.{IsKeptStep, KeepsFor};
+ghost use Rattle.book.specs.Calm.{NeverFails};
+ghost use Rattle.book.specs.inside.Counts.{HasSameCounts};
 ghost use Rattle.control.specs.Machine.{is_free};
-ghost use Rattle.rollback.specs.Simulation.{CallsStayWithin, IsCalm, IsOutcomeAt, IsSimStep, IsSimulated, IsSimulatedOver, NeverFails, RanOver, brought, emptied, said};
-ghost use Rattle.rollback.specs.inside.Simulating.{AreAnswersTo, HasSameCounts, IsRunnerOf, sim_of, stamps};
+ghost use Rattle.rollback.specs.Simulation.{CallsStayWithin, IsCalm, IsOutcomeAt, IsSimStep, IsSimulated, IsSimulatedOver, RanOver, brought, emptied, said};
+ghost use Rattle.rollback.specs.inside.Simulating.{AreAnswersTo, IsRunnerOf, sim_of, stamps};
 ghost use Rattle.control.specs.declared.answer.Answer.{Answer};
 ghost use Rattle.rollback.specs.declared.simulation.Step.TheVariants.{Join, Take, Work};
 
-use crate::book::Book;
-use crate::report::Report;
+use book::{Book, Report};
 use checkpoint::{Device, Keep};
+use compute::run_task;
 use control::{Answer, JobStatus};
 use events::Event;
-use interp::{Scratch, calls_are_a_function, calls_end};
+use interp::Scratch;
+use semantics::{calls_are_a_function, calls_end};
 use std::alloc::{AllocError, Global};
 use std::marker::Brand;
 use std::mem;
 use std::thread::Threads;
-use superstep::{Job, JobFault, Origin, Place, Task, run_task};
+use superstep::{Job, JobFault, Origin, Place, Task};
 
 /// A step of a job's workers. Workers are numbered from 0.
 #[derive(Clone, Copy)]

@@ -3,8 +3,9 @@
 use crate::measure::Measure;
 use crate::scale::{place_on, round_up};
 use crate::unit::Unit;
+use crate::words::push_number;
+use line_text::TextBuilder;
 use run_report::SuperstepCounts;
-use std::alloc::AllocError;
 
 // How wide a panel is, how high, and how many points are drawn at most, and marked. Lengths are tenths of a pixel.
 const WIDTH: u64 = 7_500;
@@ -56,161 +57,154 @@ impl Axes {
 }
 
 /// Puts a panel behind a chart that shows this of each superstep.
-pub fn push_panel(
-    text: &mut String,
-    measure: Measure,
-    supersteps: &[SuperstepCounts],
-) -> Result<(), AllocError> {
+pub fn push_panel(text: &mut TextBuilder, measure: Measure, supersteps: &[SuperstepCounts]) {
     let axes = Axes::of(supersteps, measure.most(supersteps));
-    let (top, label) = (measure.top(), measure.label());
-    writeln!(
-        text,
-        "<g transform=\"translate(1200,{top})\">\n\
-         <text y=\"-130\" font-weight=\"bold\">{label}</text>"
-    )?;
-    push_values(text, axes)?;
-    push_numbers(text, axes)?;
-    writeln!(
-        text,
-        "<path d=\"M0 0V{HEIGHT}H{WIDTH}\" fill=\"none\" stroke=\"#333333\" stroke-width=\"12\"/>"
-    )?;
-    push_curve(text, measure, supersteps, axes)?;
-    push_marks(text, measure, supersteps, axes)?;
-    text.push_str("</g>\n")
+    push_number(text, "<g transform=\"translate(1200,", measure.top());
+    text.put(")\">\n<text y=\"-130\" font-weight=\"bold\">");
+    text.put(measure.label());
+    text.put("</text>\n");
+    push_values(text, axes);
+    push_numbers(text, axes);
+    push_number(text, "<path d=\"M0 0V", HEIGHT);
+    push_number(text, "H", WIDTH);
+    text.put("\" fill=\"none\" stroke=\"#333333\" stroke-width=\"12\"/>\n");
+    push_curve(text, measure, supersteps, axes);
+    push_marks(text, measure, supersteps, axes);
+    text.put("</g>\n");
 }
 
 // The ticks of the values, each with a line across. The last is at the top, also where a step more would go past 64 bits.
-fn push_values(text: &mut String, axes: Axes) -> Result<(), AllocError> {
+fn push_values(text: &mut TextBuilder, axes: Axes) {
     for tick in 0..6 {
         let value = axes.step.saturating_mul(tick);
-        push_value(text, value, axes)?;
+        push_value(text, value, axes);
         if value >= axes.top {
-            return Ok(());
+            return;
         }
     }
-    Ok(())
 }
 
-fn push_value(text: &mut String, value: u64, axes: Axes) -> Result<(), AllocError> {
+fn push_value(text: &mut TextBuilder, value: u64, axes: Axes) {
     let down = axes.down(value);
-    let foot = down.saturating_add(45);
-    write!(
+    push_number(text, "<path d=\"M0 ", down);
+    push_number(text, "H", WIDTH);
+    push_number(
         text,
-        "<path d=\"M0 {down}H{WIDTH}\" stroke=\"#dddddd\" stroke-width=\"8\"/>\n\
-         <text x=\"-90\" y=\"{foot}\" text-anchor=\"end\">"
-    )?;
-    push_short(text, value, axes.unit)?;
-    text.push_str("</text>\n")
+        "\" stroke=\"#dddddd\" stroke-width=\"8\"/>\n<text x=\"-90\" y=\"",
+        down.saturating_add(45),
+    );
+    text.put("\" text-anchor=\"end\">");
+    push_short(text, value, axes.unit);
+    text.put("</text>\n");
 }
 
 // A value in a unit, with one decimal where it has a rest.
-fn push_short(text: &mut String, value: u64, unit: Unit) -> Result<(), AllocError> {
-    let (size, letter) = (unit.size(), unit.letter());
+fn push_short(text: &mut TextBuilder, value: u64, unit: Unit) {
+    let size = unit.size();
     let whole = value / size;
     let tenth = value % size / (size / 10).max(1);
-    match (value, tenth) {
-        (0, _) => text.push('0'),
-        (_, 0) => write!(text, "{whole}{letter}"),
-        _ => write!(text, "{whole}.{tenth}{letter}"),
+    text.show(&whole);
+    if value == 0 {
+        return;
     }
+    if tenth != 0 {
+        push_number(text, ".", tenth);
+    }
+    text.put(unit.letter());
 }
 
 // The ticks of the supersteps, and what they are.
-fn push_numbers(text: &mut String, axes: Axes) -> Result<(), AllocError> {
+fn push_numbers(text: &mut TextBuilder, axes: Axes) {
     let stride = axes.stride.max(1);
     let least = axes.first.div_ceil(stride);
     for tick in 0..11 {
         let superstep = least.saturating_add(tick).saturating_mul(stride);
         if superstep <= axes.last {
-            push_number(text, superstep, axes.across(superstep))?;
+            push_tick(text, superstep, axes.across(superstep));
         }
     }
-    let (middle, foot) = (WIDTH / 2, HEIGHT + 370);
-    writeln!(
-        text,
-        "<text x=\"{middle}\" y=\"{foot}\" text-anchor=\"middle\">superstep</text>"
-    )
+    push_place(text, WIDTH / 2, HEIGHT + 370);
+    text.put("superstep</text>\n");
 }
 
-fn push_number(text: &mut String, superstep: u64, across: u64) -> Result<(), AllocError> {
-    let (tick, foot) = (HEIGHT + 50, HEIGHT + 200);
-    writeln!(
-        text,
-        "<path d=\"M{across} {HEIGHT}V{tick}\" stroke=\"#333333\" stroke-width=\"12\"/>\n\
-         <text x=\"{across}\" y=\"{foot}\" text-anchor=\"middle\">{superstep}</text>"
-    )
+fn push_tick(text: &mut TextBuilder, superstep: u64, across: u64) {
+    push_number(text, "<path d=\"M", across);
+    push_number(text, " ", HEIGHT);
+    push_number(text, "V", HEIGHT + 50);
+    text.put("\" stroke=\"#333333\" stroke-width=\"12\"/>\n");
+    push_place(text, across, HEIGHT + 200);
+    text.show(&superstep);
+    text.put("</text>\n");
+}
+
+// The mark before words whose middle is here.
+fn push_place(text: &mut TextBuilder, middle: u64, foot: u64) {
+    push_number(text, "<text x=\"", middle);
+    push_number(text, "\" y=\"", foot);
+    text.put("\" text-anchor=\"middle\">");
 }
 
 // A curve through what is known, with a gap at each superstep of which it is not.
 fn push_curve(
-    text: &mut String,
+    text: &mut TextBuilder,
     measure: Measure,
     supersteps: &[SuperstepCounts],
     axes: Axes,
-) -> Result<(), AllocError> {
-    let colour = measure.colour();
+) {
     let size = supersteps.len().div_ceil(MOST_POINTS).max(1);
     let mut command = 'M';
-    text.push_str("<path d=\"")?;
+    text.put("<path d=\"");
     for group in supersteps.chunks(size) {
-        command = push_point(text, measure, group, axes, command)?;
+        command = push_point(text, measure, group, axes, command);
     }
-    writeln!(
-        text,
-        "\" fill=\"none\" stroke=\"{colour}\" stroke-width=\"20\" stroke-linejoin=\"round\"/>"
-    )
+    text.put("\" fill=\"none\" stroke=\"");
+    text.put(measure.colour());
+    text.put("\" stroke-width=\"20\" stroke-linejoin=\"round\"/>\n");
 }
 
 // One point of the curve, the greatest of a group, and the command for the next.
 fn push_point(
-    text: &mut String,
+    text: &mut TextBuilder,
     measure: Measure,
     group: &[SuperstepCounts],
     axes: Axes,
     command: char,
-) -> Result<char, AllocError> {
+) -> char {
     let Some(counts) = group.first() else {
-        return Ok(command);
+        return command;
     };
     if measure.of(counts).is_none() {
-        return Ok('M');
+        return 'M';
     }
-    let across = axes.across(counts.superstep);
-    let down = axes.down(measure.most(group));
-    write!(text, "{command}{across} {down}")?;
-    Ok('L')
+    text.show(&command);
+    text.show(&axes.across(counts.superstep));
+    push_number(text, " ", axes.down(measure.most(group)));
+    'L'
 }
 
 // A mark for each superstep, where they are few, which names it and its value.
 fn push_marks(
-    text: &mut String,
+    text: &mut TextBuilder,
     measure: Measure,
     supersteps: &[SuperstepCounts],
     axes: Axes,
-) -> Result<(), AllocError> {
+) {
     if supersteps.len() > MOST_MARKS {
-        return Ok(());
+        return;
     }
     for counts in supersteps {
         if let Some(value) = measure.of(counts) {
-            push_mark(text, measure, counts.superstep, value, axes)?;
+            push_mark(text, measure, counts.superstep, value, axes);
         }
     }
-    Ok(())
 }
 
-fn push_mark(
-    text: &mut String,
-    measure: Measure,
-    superstep: u64,
-    value: u64,
-    axes: Axes,
-) -> Result<(), AllocError> {
-    let colour = measure.colour();
-    let (across, down) = (axes.across(superstep), axes.down(value));
-    writeln!(
-        text,
-        "<circle cx=\"{across}\" cy=\"{down}\" r=\"35\" fill=\"{colour}\">\
-         <title>superstep {superstep}: {value}</title></circle>"
-    )
+fn push_mark(text: &mut TextBuilder, measure: Measure, superstep: u64, value: u64, axes: Axes) {
+    push_number(text, "<circle cx=\"", axes.across(superstep));
+    push_number(text, "\" cy=\"", axes.down(value));
+    text.put("\" r=\"35\" fill=\"");
+    text.put(measure.colour());
+    push_number(text, "\"><title>superstep ", superstep);
+    push_number(text, ": ", value);
+    text.put("</title></circle>\n");
 }

@@ -18,7 +18,7 @@ use Rattle.session_lines.specs.declared.run_state.RunState.{RunState}
 use Rattle.session_lines.specs.declared.run_state.RunState.TheVariants as state
 use Rattle.session.specs.declared.held_job.HeldJob.{HeldJob}
 use Rattle.session_lines.specs.declared.reply.Reply.{Reply}
-use Rattle.rollback.specs.declared.report.Report.{Report}
+use Rattle.book.specs.declared.report.Report.{Report}
 use Rattle.session_lines.specs.Commands.{add_module, add_graph, add_job, run, status, values}
 use Rattle.session.specs.Held.{IsSound}
 use Rattle.session.specs.Maps.{Maps}

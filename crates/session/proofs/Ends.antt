@@ -2,8 +2,8 @@
 use Rattle.std.proofs.Common.{inl, inr, ◌≡◌, ◌∙◌, ℕ, ℤ, ◌<◌, Bool, List, ◌++◌, codes, Some, ap, sym, subst, arith}
 use Rattle.std.proofs.lemmas.Bool.{cases_lt}
 use Rattle.wasm_ast.specs.declared.module.Module.{Module}
-use Rattle.interp.specs.Call.{Outcome}
-use Rattle.interp.specs.Outcomes.{AreOutcomes, Given}
+use Rattle.semantics.specs.Call.{Outcome}
+use Rattle.semantics.specs.Outcomes.{AreOutcomes, Given}
 use Rattle.graph.specs.Entry.{Entry}
 use Rattle.superstep.specs.declared.ending.JobEnd.{JobEnd}
 use Rattle.job_state.specs.declared.settings.Settings.{Settings}

@@ -2,7 +2,7 @@
 use Rattle.std.specs.Prelude.{◌≡◌}
 use Rattle.superstep.specs.Job.{Work}
 use Rattle.superstep.specs.Ending.{IsEndOf}
-use Rattle.rollback.specs.declared.report.Report.{Report}
+use Rattle.book.specs.declared.report.Report.{Report}
 use Rattle.session_lines.specs.declared.run_state.RunState.{RunState}
 use Rattle.session_lines.specs.declared.run_state.RunState.TheVariants as state
 

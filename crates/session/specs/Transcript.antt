@@ -13,7 +13,7 @@ use Rattle.sources.specs.Jobs.{IsJobOf, RefusesSettings}
 use Rattle.sources.specs.Reading.{IsLoadedAt, IsNoGraphAt, IsReadAt, IsRefusedAt}
 use Rattle.session_lines.specs.declared.command.Kind.{Kind}
 use Rattle.session_lines.specs.declared.command.Kind.TheVariants as kind
-use Rattle.rollback.specs.declared.report.Report.{Report}
+use Rattle.book.specs.declared.report.Report.{Report}
 use Rattle.session_lines.specs.declared.run_state.RunState.TheVariants as state
 use Rattle.session.specs.declared.held_job.HeldJob.{HeldJob}
 use Rattle.session_lines.specs.Commands.{Asked, add_module, add_graph, add_job, run, status, values, drop, quit, unknown, is_quit}

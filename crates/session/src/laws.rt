@@ -3,7 +3,7 @@
 ghost use Rattle.session.specs.Same.{HaveSameValues};
 
 use crate::runner::Runner;
-use interp::calls_are_a_function;
+use semantics::calls_are_a_function;
 use sources::Files;
 
 /// Shows that two sessions report the same values of two jobs, if these have the same module, graph and limit. The files,

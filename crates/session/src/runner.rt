@@ -4,7 +4,7 @@ ghost use Rattle.std.specs.Prelude.{IfOk};
 ghost use Rattle.superstep.specs.Ending.{IsEndOf};
 ghost use Rattle.session.specs.Runs.{Runs};
 
-use rollback::Report;
+use book::Report;
 use superstep::{Job, JobFault};
 
 /// A way of running the jobs of a session.

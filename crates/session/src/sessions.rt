@@ -17,8 +17,8 @@ use crate::held_job::HeldJob;
 use crate::maps::{hold, is_held, let_go};
 use crate::reading::{graph_at, module_at};
 use crate::runner::Runner;
+use book::Report;
 use graph::Graph;
-use rollback::Report;
 use session_lines::{
     Command, Kind, Reply, RunState, end_text, graph_text, job_text, module_text, refusal,
     status_text, values_text,

@@ -1,6 +1,6 @@
 //! The states of the jobs of a session.
 
-use rollback::Report;
+use book::Report;
 use superstep::JobFault;
 
 /// The state of a job: it waits, or its run has ended.

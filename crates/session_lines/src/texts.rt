@@ -6,9 +6,9 @@ ghost use Rattle.call_lines.specs.OutputLines.{IfText};
 ghost use Rattle.session_lines.specs.Replies.{failed_line, graph_line, job_line, module_line, run_line, values_text};
 ghost use Rattle.session_lines.specs.inside.Seen.{IsModuleLine, run_end_line};
 
+use book::Report;
 use call_lines::{end_word, push_values};
 use graph::{Graph, MAX_EDGES, Vertex};
-use rollback::Report;
 use std::alloc::{AllocError, Global};
 use superstep::{JobEnd, JobFault};
 use verified::Verified;

@@ -3,7 +3,7 @@
 ghost use Rattle.std.specs.Prelude.{◌≡◌, Some, None, OnErr, OnOk, IfErr, MatchResult, take};
 ghost use Rattle.sources.specs.Disk.{Disk, HoldsAt, Stays, Tries, Writes, unknown};
 
-use crate::system::{read_file, write_file};
+use crate::system::System;
 use std::alloc::Global;
 use std::{fmt, io};
 use thiserror::Error;
@@ -78,18 +78,18 @@ impl<'a, R> SystemFiles<'a, R> {
 }
 
 // The contents of these files are unknown to the contracts.
-impl<R: std::rt::Files + Eprint + AllocGlobal> Files for SystemFiles<'_, R> {
+impl<R: System + Eprint> Files for SystemFiles<'_, R> {
     ghost disk = { λ _. unknown };
 
     fn read(&mut self, alloc: Global, path: &str) -> Result<Vec<u8>, FileFault> {
-        match read_file(self.rt, alloc, path, usize::MAX) {
+        match self.rt.read_file(alloc, path, usize::MAX) {
             Ok(bytes) => Ok(bytes),
             Err(error) => Err(fault_of(self.rt, self.tells, path, &error)),
         }
     }
 
     fn read_front(&mut self, alloc: Global, path: &str, most: usize) -> Result<Vec<u8>, FileFault> {
-        match read_file(self.rt, alloc, path, most) {
+        match self.rt.read_file(alloc, path, most) {
             Ok(mut bytes) => {
                 bytes.truncate(most);
                 Ok(bytes)
@@ -99,7 +99,7 @@ impl<R: std::rt::Files + Eprint + AllocGlobal> Files for SystemFiles<'_, R> {
     }
 
     fn write(&mut self, path: &str, bytes: &[u8]) -> Result<(), FileFault> {
-        match write_file(self.rt, path, bytes) {
+        match self.rt.write_file(path, bytes) {
             Ok(()) => Ok(()),
             Err(error) => Err(fault_of(self.rt, self.tells, path, &error)),
         }

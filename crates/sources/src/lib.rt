@@ -17,3 +17,4 @@ pub use laws::means_one_module;
 pub use modules::{load, module_of};
 pub use reading::{load_file, read_graph, read_module};
 pub use refusal::refusal_line;
+pub use system::System;

@@ -7,9 +7,31 @@ use std::io::{ErrorKind, Read};
 use std::rt::Files;
 use std::{fs, io};
 
-/// Reads at most `most` bytes from the beginning of a file. If the system knows the length of the file, memory for it is
-/// allocated at once.
-pub fn read_file<R: Files>(rt: &R, alloc: Global, path: &str, most: usize) -> io::Result<Vec<u8>> {
+/// What [`SystemFiles`](crate::SystemFiles) asks of the operating system. Every runtime with `Files` of std and memory has it.
+pub trait System {
+    /// Reads at most `most` bytes from the beginning of a file. If the system knows the length of the file, memory for it is
+    /// allocated at once. It fails where there is no file, it cannot be read, or memory runs out.
+    fn read_file(&self, alloc: Global, path: &str, most: usize) -> io::Result<Vec<u8>>;
+
+    /// Replaces the whole content of the file at a path. If that fails, the file keeps its old content.
+    ///
+    /// The following are written in place: devices, pipes and other files that are not regular; links to such a file, to
+    /// nothing, or to an open file of a process (`/dev/stdout`); and files whose folder allows no new file. Any other link
+    /// stays a link, and its file is replaced.
+    fn write_file(&self, path: &str, bytes: &[u8]) -> io::Result<()>;
+}
+
+impl<R: Files + AllocGlobal> System for R {
+    fn read_file(&self, alloc: Global, path: &str, most: usize) -> io::Result<Vec<u8>> {
+        read_file(self, alloc, path, most)
+    }
+
+    fn write_file(&self, path: &str, bytes: &[u8]) -> io::Result<()> {
+        write_file(self, path, bytes)
+    }
+}
+
+fn read_file<R: Files>(rt: &R, alloc: Global, path: &str, most: usize) -> io::Result<Vec<u8>> {
     let file = fs::open(rt, path)?;
     let room = file.metadata()?.len().min(most as u64);
     let mut bytes = Vec::with_capacity(alloc, room as usize)?;
@@ -17,12 +39,7 @@ pub fn read_file<R: Files>(rt: &R, alloc: Global, path: &str, most: usize) -> io
     Ok(bytes)
 }
 
-/// Replaces the whole content of the file at a path. If that fails, the file keeps its old content.
-///
-/// The following are written in place: devices, pipes and other files that are not regular; links to such a file, to
-/// nothing, or to an open file of a process (`/dev/stdout`); and files whose folder allows no new file. Any other link
-/// stays a link, and its file is replaced.
-pub fn write_file<R: Files + AllocGlobal>(rt: &R, path: &str, bytes: &[u8]) -> io::Result<()> {
+fn write_file<R: Files + AllocGlobal>(rt: &R, path: &str, bytes: &[u8]) -> io::Result<()> {
     if !is_link(rt, path) {
         return write_unlinked(rt, path, bytes);
     }

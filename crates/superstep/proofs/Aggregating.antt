@@ -12,7 +12,7 @@ use Rattle.std.proofs.lemmas.List.FromFn.{fill_by_all, get_or-map-range_with_len
 use Rattle.std.proofs.lemmas.List.Sorted.{IsPermutation-append_comm, IsPermutation-append_left, IsPermutation-append_right, IsPermutation-keeps, IsPermutation-refl, IsPermutation-trans}
 use Rattle.std.proofs.lemmas.List.Sums.{fold-append}
 use borrow.Author.Tests.{eqb-false, eqb-true}
-use Rattle.interp.specs.Call.{Outcome}
+use Rattle.semantics.specs.Call.{Outcome}
 use Rattle.verified.specs.Aggregators.{aggregator_starts}
 use Rattle.superstep.specs.Folds.{aggregated, combined, give}
 use Rattle.superstep.specs.Superstep.{contributions_of}

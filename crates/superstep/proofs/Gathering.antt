@@ -6,7 +6,7 @@ use Rattle.std.proofs.lemmas.List.{append-nil, map-append}
 use Rattle.std.proofs.lemmas.List.Concat.{flat_map-append}
 use Rattle.std.proofs.lemmas.List.Sorted.{IsPermutation-append, IsPermutation-refl}
 use Rattle.std.proofs.lemmas.List.Sums.{sum_by-append}
-use Rattle.interp.specs.Call.{Outcome}
+use Rattle.semantics.specs.Call.{Outcome}
 use Rattle.graph.specs.Partition.{joined}
 use Rattle.inbox.specs.declared.letters.Letter.{Letter}
 use Rattle.superstep.specs.declared.barrier_step.Gathered.{Gathered}

@@ -9,7 +9,7 @@ use Rattle.std.proofs.lemmas.List.{map-append}
 use Rattle.std.proofs.lemmas.List.Elements.{All-from_recursion}
 use Rattle.std.proofs.lemmas.List.Folds.{flat_map-map, fold-map}
 use Rattle.std.proofs.lemmas.List.Sorted.{list_any-IsPermutation, sum_by-IsPermutation}
-use Rattle.interp.specs.Call.{Outcome}
+use Rattle.semantics.specs.Call.{Outcome}
 use Rattle.graph.specs.Partition.{joined}
 use Rattle.inbox.specs.declared.letters.Letter.{Letter}
 use Rattle.inbox.specs.Merging.{AreSent, dropped_of, goes_to, letter_sent}

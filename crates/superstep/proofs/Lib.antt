@@ -1,6 +1,5 @@
 pub mod Aggregating
 pub mod Deliveries
-pub mod DueRuns
 pub mod Edges
 pub mod Firsts
 pub mod FoundRows
@@ -8,8 +7,6 @@ pub mod Gathering
 pub mod Graphs
 pub mod Letters
 pub mod NextState
-pub mod PartCalls
-pub mod PartLeft
 pub mod PartStates
 pub mod Rejoining
 pub mod Runs

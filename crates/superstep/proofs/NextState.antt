@@ -7,7 +7,7 @@ use Rattle.std.proofs.lemmas.List.FromFn.{map-range_with_len_more}
 use Rattle.std.proofs.lemmas.List.Sorted.{IsPermutation-map, sum_by-IsPermutation}
 use Rattle.std.proofs.lemmas.List.Sums.{sum_by_push}
 use Rattle.std.proofs.lemmas.Simd.{map-map}
-use Rattle.interp.specs.Call.{Outcome}
+use Rattle.semantics.specs.Call.{Outcome}
 use Rattle.graph.specs.Entry.{ids}
 use Rattle.graph.specs.Partition.{joined}
 use Rattle.superstep.specs.declared.barrier_step.Gathered.{Gathered}

@@ -8,8 +8,8 @@ use Rattle.std.proofs.lemmas.List.Folds.{flat_map-map}
 use Rattle.std.proofs.lemmas.List.FromFn.{fill_by_all, length-map-range_with_len}
 use Rattle.std.proofs.lemmas.List.Sorted.{IsPermutation-map, IsPermutation-sym, IsPermutation-trans}
 use Rattle.std.proofs.lemmas.Simd.{map-map}
-use Rattle.interp.specs.Call.{Outcome}
-use Rattle.interp.specs.Outcomes.{Given}
+use Rattle.semantics.specs.Call.{Outcome}
+use Rattle.semantics.specs.Outcomes.{Given}
 use Rattle.graph.specs.Entry.{Entry, id_at, ids, part_of_graph}
 use Rattle.graph.specs.Partition.{joined, part_by, parts_by}
 use Rattle.graph.specs.inside.Partitioned.{parts_whole}

@@ -6,7 +6,7 @@ use Rattle.std.proofs.lemmas.List.FromFn.{length-enumerate_from}
 use Rattle.std.proofs.lemmas.List.Sorted.{length_permutation}
 use Rattle.std.proofs.lemmas.List.Sums.{sum_by-cons}
 use Rattle.std.proofs.lemmas.Simd.{map-map}
-use Rattle.interp.specs.Call.{Outcome}
+use Rattle.semantics.specs.Call.{Outcome}
 use Rattle.inbox.specs.declared.letters.Letter.{Letter}
 use Rattle.inbox.specs.Merging.{letter_sent}
 use Rattle.job_state.specs.declared.state.VertexState.{VertexState}

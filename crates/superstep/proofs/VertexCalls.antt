@@ -7,16 +7,16 @@ use Rattle.std.specs.List.{All, AllByRecursion}
 use Rattle.verified.specs.declared.call.CallInput.{CallInput}
 use Rattle.verified.specs.declared.call.CallOutcome.{CallOutcome}
 use Rattle.wasm_ast.specs.declared.module.Module.{Module}
-use Rattle.interp.specs.Bounded.{max_id}
-use Rattle.interp.specs.Call.{IsOutcome, Outcome, shown}
-use Rattle.interp.specs.Outcomes.{Given}
+use Rattle.semantics.specs.Bounded.{max_id}
+use Rattle.semantics.specs.Call.{IsOutcome, Outcome, shown}
+use Rattle.semantics.specs.Outcomes.{Given}
 use Rattle.graph.specs.Entry.{Entry, is_in_range}
 use Rattle.job_state.specs.declared.state.VertexState.{VertexState}
 use Rattle.superstep.specs.declared.task.Shared.{Shared}
 use Rattle.superstep.specs.Snapshot.{Row, is_called}
 use Rattle.superstep.specs.Superstep.{idle}
 use Rattle.superstep.specs.Tasks.{emptied}
-use Rattle.superstep.specs.inside.PartOutput.{Tells, given_in, left_in, row_of}
+use Rattle.superstep.specs.inside.Called.{Tells, given_in, left_in, row_of}
 
 pub called_true : (row : Row) → (row.active ≡ true) ⊎ (0 < length row.inbox) → is_called row ≡ true
 called_true row (inl active) = rw active refl

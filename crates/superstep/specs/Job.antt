@@ -1,8 +1,8 @@
 -- A job, and its meaning.
 use Rattle.std.specs.Prelude.{◌≡◌, ℕ, List, length}
 use Rattle.wasm_ast.specs.declared.module.Module.{Module}
-use Rattle.interp.specs.Call.{Outcome}
-use Rattle.interp.specs.Outcomes.{AreOutcomes, Given}
+use Rattle.semantics.specs.Call.{Outcome}
+use Rattle.semantics.specs.Outcomes.{AreOutcomes, Given}
 use Rattle.graph.specs.Entry.{Entry, FitsLimits, IsProper, edge_count, parts_of}
 use Rattle.job_state.specs.declared.settings.Settings.{Settings}
 

@@ -1,7 +1,7 @@
 -- The plain run of a job, superstep after superstep on one machine, and its answer.
 use Rattle.std.specs.Prelude.{◌≡◌, ◌≤◌, ◌<◌, ℕ, ℤ, zero, suc, Bool, true, false, List, [], map}
-use Rattle.interp.specs.Call.{Outcome}
-use Rattle.interp.specs.Outcomes.{Given}
+use Rattle.semantics.specs.Call.{Outcome}
+use Rattle.semantics.specs.Outcomes.{Given}
 use Rattle.graph.specs.Entry.{Entry}
 use Rattle.verified.specs.Aggregators.{aggregator_starts}
 use Rattle.job_state.specs.State.{capped}

@@ -1,8 +1,8 @@
 -- Which states are those of a job between two supersteps.
 use Rattle.std.specs.Prelude.{◌≡◌, ◌-◌, ℕ, List, map}
 use Rattle.std.specs.List.{range_with_len}
-use Rattle.interp.specs.Call.{Outcome}
-use Rattle.interp.specs.Outcomes.{Given}
+use Rattle.semantics.specs.Call.{Outcome}
+use Rattle.semantics.specs.Outcomes.{Given}
 use Rattle.graph.specs.Entry.{Entry, ids}
 use Rattle.job_state.specs.declared.state.VertexState.{VertexState}
 use Rattle.job_state.specs.State.{Standing, state_id}

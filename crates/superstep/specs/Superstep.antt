@@ -2,8 +2,8 @@
 use Rattle.std.specs.Prelude.{ℕ, ℤ, pos, ◌+◌, Bool, true, not, List, [], map, filter, count_by, length, if◌then◌else◌}
 use Rattle.std.specs.List.{flat_map, list_any, sum_by}
 use Rattle.std.specs.Ordering.{int_eq}
-use Rattle.interp.specs.Call.{Outcome}
-use Rattle.interp.specs.Outcomes.{Given}
+use Rattle.semantics.specs.Call.{Outcome}
+use Rattle.semantics.specs.Outcomes.{Given}
 use Rattle.job_state.specs.State.{capped}
 use Rattle.superstep.specs.Folds.{aggregated}
 use Rattle.superstep.specs.Snapshot.{Row, Snapshot, is_called, row_ids}

@@ -1,7 +1,6 @@
 pub mod Barrier
+pub mod Called
 pub mod Codes
-pub mod DueRuns
-pub mod PartOutput
 pub mod Opening
 pub mod Rows
 pub mod Running

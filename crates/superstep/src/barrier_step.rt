@@ -18,8 +18,8 @@ ghost use Rattle.superstep.specs.inside.Barrier.{AreSpread, IsGathered, all_fill
 ghost use Rattle.job_state.specs.inside.Handed.{HasNoInbox};
 ghost use Rattle.superstep.specs.inside.Uniting.{united};
 
+use crate::aggregation::combined;
 use crate::job::Job;
-use crate::part_output::combined;
 use crate::slice::Origin;
 use crate::task::Done;
 use inbox::{

@@ -10,8 +10,8 @@ ghost use Rattle.job_state.specs.declared.fault.Place.TheVariants.{Open};
 ghost use Rattle.superstep.specs.inside.Opening.{IsOpen, edges_at};
 
 use graph::{Graph, Part, Vertex, split};
-use interp::calls_are_a_function;
 use job_state::{JobFault, Place, Settings};
+use semantics::calls_are_a_function;
 use std::alloc::{AllocError, Global};
 use std::marker::Model;
 use verified::Verified;

@@ -4,7 +4,7 @@ ghost use Rattle.std.specs.Prelude.{◌≡◌, ◌≤◌, true, length, IfOk};
 ghost use Rattle.superstep.specs.Found.{IsFoundAt};
 ghost use Rattle.superstep.specs.Job.{Work};
 ghost use Rattle.superstep.specs.State.{HasIdsOf, IsStateAt};
-ghost use Rattle.superstep.specs.Tasks.{stamps_of};
+ghost use Rattle.superstep.specs.Tasks.{IsSlice, stamps_of};
 ghost use Rattle.job_state.specs.Totals.{AreTotals, IsTotalsOf};
 ghost use Rattle.superstep.specs.Totals.{AreTotalsOf};
 ghost use Rattle.superstep.specs.inside.Rows.{AreSlices};
@@ -47,11 +47,11 @@ impl Origin for Brand {
 /// the job is `honest` in this epoch; their ids always fit the part.
 #[derive(Drop)]
 pub struct Slice<J: Origin> {
-    pub(crate) epoch: u64,
-    pub(crate) part: u32,
-    pub(crate) superstep: u32,
-    pub(crate) vertices: PartStates,
-    pub(crate) origin: PhantomData<J>,
+    epoch: u64,
+    part: u32,
+    superstep: u32,
+    vertices: PartStates,
+    origin: PhantomData<J>,
 }
 
 impl<J: Origin> Model for Slice<J> {
@@ -90,6 +90,20 @@ impl<J: Origin> Slice<J> {
         ensures { result ≡ self.now.superstep }
     {
         self.superstep
+    }
+
+    // Returns the vertices.
+    pub(crate) fn into_states(self) -> PartStates
+        ensures { IsSlice J.work J.honest self result }
+    {
+        let Slice {
+            epoch: _,
+            part: _,
+            superstep: _,
+            vertices,
+            origin: _,
+        } = self;
+        vertices
     }
 
     // Counts the vertices that are called, and their messages.

@@ -1,24 +1,15 @@
 //! Tasks: one superstep on one part.
 
-ghost use Rattle.std.specs.Prelude.{◌≡◌, All, true, map, IfOk, IfErr, OnOk};
-ghost use Rattle.graph.specs.Entry.{entries_of, entry_of, ids};
+ghost use Rattle.std.specs.Prelude.{◌≡◌, true, IfOk};
 ghost use Rattle.superstep.specs.Found.{IsFoundAt};
-ghost use Rattle.job_state.specs.State.{state_id};
-ghost use Rattle.superstep.specs.Tasks.{AreAggregatesAt, AreUnitsAt, IsDone, IsSentAt};
-ghost use Rattle.job_state.specs.declared.fault.Place.TheVariants.{Call};
-ghost use Rattle.job_state.specs.inside.DueRows.{due_rows};
-ghost use Rattle.superstep.specs.inside.PartOutput.{CallsPart, CallsVertex, HasProperIds};
+ghost use Rattle.superstep.specs.Tasks.{AreAggregatesAt, FitsPart, IsDone, IsPartAt, IsSentAt};
 
-use crate::job::Job;
-use crate::part_output::PartOutput;
 use crate::slice::{Origin, Slice};
-use graph::Vertex;
-use inbox::{Inbox, Outbox};
-use interp::{Scratch, calls_are_a_function, run};
-use job_state::{Found, PartStates, Place, VertexState};
+use inbox::Outbox;
+use job_state::{Found, PartStates, Place};
 use std::alloc::{AllocError, Global};
 use std::marker::{Model, PhantomData};
-use verified::{CallInput, Verified};
+use verified::Verified;
 
 /// A superstep on one part, for a worker. In contracts its model is the epoch, the superstep and the part.
 #[derive(Drop)]
@@ -90,6 +81,22 @@ impl<J: Origin> Task<J> {
     {
         self.slice.found()
     }
+
+    /// Takes it apart: the vertices of its part, and the aggregates of the superstep before.
+    pub fn into_parts(self) -> (PartStates, [i64; 8])
+        ensures fits { FitsPart J.work self.part result.0 }
+        ensures at { J.honest self.epoch ≡ true
+            → IsPartAt J.work self.superstep self.part result.0 }
+        ensures aggregates { J.honest self.epoch ≡ true
+            → AreAggregatesAt J.work self.superstep result.1 }
+    {
+        let Task {
+            epoch: _,
+            slice,
+            aggregated,
+        } = self;
+        (slice.into_states(), aggregated)
+    }
 }
 
 /// The result of a task. In contracts its model is the epoch, the superstep, the part and the units.
@@ -143,6 +150,36 @@ impl<J: Origin> Model for Done<J> {
 }
 
 impl<J: Origin> Done<J> {
+    /// Makes the result of a task from what its calls left: their units, the vertices, the letters and the aggregators.
+    pub fn of(
+        epoch: u64,
+        superstep: u32,
+        part: u32,
+        units: u128,
+        vertices: PartStates,
+        letters: Outbox,
+        aggregators: [i64; 8],
+    ) -> Done<J>
+        requires { IsDone J.work J.honest
+            (record { epoch = epoch; superstep = superstep; part = part; units = units })
+            vertices letters aggregators }
+        ensures epoch { result.epoch ≡ epoch }
+        ensures superstep { result.superstep ≡ superstep }
+        ensures part { result.part ≡ part }
+        ensures units { result.units ≡ units }
+    {
+        Done {
+            epoch,
+            superstep,
+            part,
+            units,
+            vertices,
+            letters,
+            aggregators,
+            origin: PhantomData,
+        }
+    }
+
     /// Returns the epoch of its task.
     pub fn epoch(&self) -> u64
         ensures { result ≡ self.now.epoch }
@@ -222,67 +259,6 @@ pub struct TaskLost {
     pub place: Place,
 }
 
-/// Runs a task: a compute call of each vertex of the part that is active or has messages (Pregel 2010, 2). It fails only where
-/// memory runs out. Either way the scratch still fits the job.
-pub fn run_task<J: Origin>(
-    alloc: Global,
-    job: &Job,
-    task: Task<J>,
-    scratch: &mut Scratch,
-) -> Result<Done<J>, TaskLost>
-    requires job { J.work ≡ job.now }
-    requires fits { scratch.old ≡ job.now.«module» }
-    ensures kept { scratch.new ≡ scratch.old }
-    ensures epoch { IfOk result (λ done. done.epoch ≡ task.epoch) }
-    ensures superstep { IfOk result (λ done. done.superstep ≡ task.superstep) }
-    ensures part { IfOk result (λ done. done.part ≡ task.part) }
-    ensures units { IfOk result (λ done. J.honest task.epoch ≡ true
-        → AreUnitsAt J.work task.superstep task.part done.units) }
-    ensures lost { IfErr result (λ lost. lost.place ≡ Call) }
-{
-    calls_are_a_function();
-    let Task {
-        epoch,
-        slice,
-        aggregated,
-    } = task;
-    let Slice {
-        epoch: _,
-        part,
-        superstep,
-        vertices: part_states,
-        origin,
-    } = slice;
-    let (mut vertices, due) = part_states.into_parts();
-    let shared = Shared {
-        verified: job.verified(),
-        superstep,
-        count: job.count(),
-        aggregated,
-    };
-    let entries = &job.parts()[part as usize].vertices;
-    let ran = run_part(alloc, &shared, entries, &mut vertices, &due, scratch);
-    let Ok((left, active)) = ran else {
-        return Err(TaskLost { place: Place::Call });
-    };
-    let PartOutput {
-        letters,
-        aggregators,
-        units,
-    } = left;
-    let vertices = PartStates::of_due(vertices, active);
-    Ok(Done {
-        epoch,
-        superstep,
-        part,
-        units,
-        vertices,
-        letters,
-        aggregators,
-        origin,
-    })
-}
-
 /// The input that all calls of a superstep share.
 #[derive(Clone, Copy)]
 pub struct Shared<'a> {
@@ -290,71 +266,4 @@ pub struct Shared<'a> {
     pub superstep: u32,
     pub count: u32,
     pub aggregated: [i64; 8],
-}
-
-// Calls a part's due vertices, one after another, and lists the rows of those that stay active. `entries` has their edges.
-fn run_part(
-    alloc: Global,
-    shared: &Shared,
-    entries: &[Vertex],
-    vertices: &mut [VertexState],
-    due: &[usize],
-    scratch: &mut Scratch,
-) -> Result<(PartOutput, Vec<usize>), AllocError>
-    requires same { ids (entries_of entries.now) ≡ map state_id vertices.old }
-    requires proper { All HasProperIds (entries_of entries.now) }
-    requires fits { scratch.old ≡ shared.now.verified.now }
-    requires due { due.now ≡ due_rows 0 vertices.old }
-    ensures kept { scratch.new ≡ scratch.old }
-    ensures calls { IfOk result (λ ran.
-        CallsPart shared.now (entries_of entries.now) vertices.old vertices.new ran.0) }
-    ensures active { IfOk result (λ ran. ran.1.items ≡ due_rows 0 vertices.new) }
-{
-    let mut left = PartOutput::nothing(alloc);
-    let mut active = Vec::with_capacity(alloc, due.len())?;
-    for row in due {
-        let vertex = &mut vertices[*row];
-        run_vertex(alloc, shared, &entries[*row], vertex, scratch, &mut left)?;
-        if vertex.active {
-            active.push(*row)?;
-        }
-    }
-    Ok((left, active))
-}
-
-// Calls a vertex that is active or has messages. Any other stays as it is.
-fn run_vertex(
-    alloc: Global,
-    shared: &Shared,
-    entry: &Vertex,
-    vertex: &mut VertexState,
-    scratch: &mut Scratch,
-    left: &mut PartOutput,
-) -> Result<(), AllocError>
-    requires same { entry.now.id ≡ vertex.old.id }
-    requires proper { HasProperIds (entry_of entry.now) }
-    requires fits { scratch.old ≡ shared.now.verified.now }
-    ensures kept { scratch.new ≡ scratch.old }
-    ensures calls { OnOk result (CallsVertex shared.now (entry_of entry.now)
-        vertex.old vertex.new left.old left.new) }
-{
-    if !vertex.active && vertex.inbox.as_slice().is_empty() {
-        return Ok(());
-    }
-    let input = CallInput {
-        id: vertex.id,
-        superstep: shared.superstep,
-        count: shared.count,
-        value: vertex.value,
-        messages: vertex.inbox.as_slice(),
-        edges: &entry.edges,
-        aggregated: shared.aggregated,
-    };
-    let outcome = run(alloc, shared.verified, &input, scratch)?;
-    left.add(vertex.id, &outcome)?;
-    vertex.value = outcome.value;
-    vertex.active = !outcome.halted;
-    scratch.reuse(outcome);
-    vertex.fill(Inbox::empty(alloc));
-    Ok(())
 }

@@ -1,7 +1,7 @@
 -- How runs in threads end.
 use Rattle.std.proofs.Common.{◌≡◌, Err, IfOk, Ok, refl, true}
 use Rattle.std.specs.Prelude.{IfErr, Result}
-use Rattle.rollback.specs.declared.report.Report.{Report}
+use Rattle.book.specs.declared.report.Report.{Report}
 use Rattle.job_state.specs.declared.fault.JobFault.{JobFault}
 use Rattle.superstep.specs.Ending.{IsEndOf}
 use Rattle.superstep.specs.Job.{Work}

@@ -4,7 +4,7 @@ use Rattle.job_state.specs.declared.fault.JobFault.{JobFault}
 use Rattle.superstep.specs.Ending.{IsEndOf}
 use Rattle.superstep.specs.Job.{Work}
 use Rattle.event_loop.specs.JobAnswers.{IsCalmReport, IsRunFault}
-use Rattle.rollback.specs.declared.report.Report.{Report}
+use Rattle.book.specs.declared.report.Report.{Report}
 use Rattle.session.specs.Runs.{Runs}
 
 -- A run in threads ends with the end of the plain run and the units of each superstep from the first on, with no save missed and

@@ -7,8 +7,8 @@ ghost use Rattle.session.specs.Runs.{EndsAs};
 ghost use Rattle.session.specs.Serving.{Serves};
 ghost use Rattle.threaded_session.specs.Runs.{IsThreadedEnd, threaded};
 
+use book::Report;
 use checkpoint::{Device, MemoryKeep, a_memory_keep_loads_nothing_else};
-use rollback::Report;
 use session::{Runner, ServeFault, serve};
 use sources::Files;
 use std::alloc::Global;

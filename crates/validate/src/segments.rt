@@ -43,16 +43,12 @@ fn check_element(element: &Element, spaces: &IndexSpaces) -> Result<(), ValidFau
     }
     check_constant(ValType::I32, &element.offset, spaces, spaces.globals.len())?;
     let count = spaces.functions.len();
-    if element
-        .functions
-        .as_slice()
-        .iter()
-        .all(|function| (*function as usize) < count)
-    {
-        Ok(())
-    } else {
-        Err(ValidFault::from(Rule::Function))
+    for function in element.functions.as_slice() {
+        if *function as usize >= count {
+            return Err(ValidFault::from(Rule::Function));
+        }
     }
+    Ok(())
 }
 
 /// Checks the data segments (Core 1.0, 3.4.6).

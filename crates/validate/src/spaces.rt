@@ -117,40 +117,54 @@ fn function_types(
     ensures { IfOk result (λ v. v.items
         ≡ imported function_import imports.now ++ type_numbers functions.now) }
 {
-    imports
-        .iter()
-        .filter_map(|import| imported_function(import.description))
-        .chain(functions.iter().map(|function| function.type_number))
-        .collect(alloc)
+    let mut numbers = Vec::new(alloc);
+    for import in imports {
+        if let Some(number) = imported_function(import.description) {
+            numbers.push(number)?;
+        }
+    }
+    for function in functions {
+        numbers.push(function.type_number)?;
+    }
+    Ok(numbers)
 }
 
 fn tables(alloc: Heap, imports: &[Import], defined: &[Limits]) -> Result<Vec<Limits>, AllocError>
     ensures { IfOk result (λ v. v.items ≡ imported table_import imports.now ++ defined.now) }
 {
-    imports
-        .iter()
-        .filter_map(|import| imported_table(import.description))
-        .chain(defined.iter().copied())
-        .collect(alloc)
+    let mut tables = Vec::new(alloc);
+    for import in imports {
+        if let Some(limits) = imported_table(import.description) {
+            tables.push(limits)?;
+        }
+    }
+    tables.extend_from_slice(defined)?;
+    Ok(tables)
 }
 
 fn memories(alloc: Heap, imports: &[Import], defined: &[Limits]) -> Result<Vec<Limits>, AllocError>
     ensures { IfOk result (λ v. v.items ≡ imported memory_import imports.now ++ defined.now) }
 {
-    imports
-        .iter()
-        .filter_map(|import| imported_memory(import.description))
-        .chain(defined.iter().copied())
-        .collect(alloc)
+    let mut memories = Vec::new(alloc);
+    for import in imports {
+        if let Some(limits) = imported_memory(import.description) {
+            memories.push(limits)?;
+        }
+    }
+    memories.extend_from_slice(defined)?;
+    Ok(memories)
 }
 
 fn global_types(alloc: Heap, imports: &[Import]) -> Result<Vec<GlobalType>, AllocError>
     ensures { IfOk result (λ v. v.items ≡ imported global_import imports.now) }
 {
-    imports
-        .iter()
-        .filter_map(|import| imported_global(import.description))
-        .collect(alloc)
+    let mut globals = Vec::new(alloc);
+    for import in imports {
+        if let Some(global) = imported_global(import.description) {
+            globals.push(global)?;
+        }
+    }
+    Ok(globals)
 }
 
 // Lists these types, and after them those of the globals.
@@ -161,11 +175,11 @@ fn with_types_of(
 ) -> Result<Vec<GlobalType>, AllocError>
     ensures { IfOk result (λ v. v.items ≡ types.now ++ global_types globals.now) }
 {
-    types
-        .iter()
-        .copied()
-        .chain(globals.iter().map(|global| global.global_type))
-        .collect(alloc)
+    let mut all = Vec::from_slice(alloc, types)?;
+    for global in globals {
+        all.push(global.global_type)?;
+    }
+    Ok(all)
 }
 
 fn imported_function(description: ImportDescription) -> Option<u32>

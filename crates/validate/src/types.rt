@@ -15,22 +15,27 @@ const MAX_PAGES: u32 = 65_536;
 pub fn check_types(types: &[FuncType]) -> Result<(), ValidFault>
     ensures { Settles (AllByRecursion TypeHolds types.now) result }
 {
-    if types.iter().all(|t| t.results.as_slice().len() <= 1) {
-        Ok(())
-    } else {
-        Err(ValidFault::from(Rule::Limits))
+    for function_type in types {
+        if function_type.results.as_slice().len() > 1 {
+            return Err(ValidFault::from(Rule::Limits));
+        }
     }
+    Ok(())
 }
 
 /// Checks that there is at most one table, and that its maximum is at least its minimum (Core 1.0, 3.2.3 and 3.4.10).
 pub fn check_tables(tables: &[Limits]) -> Result<(), ValidFault>
     ensures { Settles ((length tables.now ≤ 1) × AllByRecursion TableHolds tables.now) result }
 {
-    if tables.len() <= 1 && tables.iter().all(|t| is_ordered(*t)) {
-        Ok(())
-    } else {
-        Err(ValidFault::from(Rule::Limits))
+    if tables.len() > 1 {
+        return Err(ValidFault::from(Rule::Limits));
     }
+    for table in tables {
+        if !is_ordered(*table) {
+            return Err(ValidFault::from(Rule::Limits));
+        }
+    }
+    Ok(())
 }
 
 /// Checks that there is at most one memory, of at most `MAX_PAGES` pages, and that its maximum is at least its minimum
@@ -38,11 +43,15 @@ pub fn check_tables(tables: &[Limits]) -> Result<(), ValidFault>
 pub fn check_memories(memories: &[Limits]) -> Result<(), ValidFault>
     ensures { Settles ((length memories.now ≤ 1) × AllByRecursion MemoryHolds memories.now) result }
 {
-    if memories.len() <= 1 && memories.iter().all(|t| is_memory(*t)) {
-        Ok(())
-    } else {
-        Err(ValidFault::from(Rule::Limits))
+    if memories.len() > 1 {
+        return Err(ValidFault::from(Rule::Limits));
     }
+    for memory in memories {
+        if !is_memory(*memory) {
+            return Err(ValidFault::from(Rule::Limits));
+        }
+    }
+    Ok(())
 }
 
 fn is_memory(limits: Limits) -> bool

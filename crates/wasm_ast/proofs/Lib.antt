@@ -1,3 +1,1 @@
-mod Rotations
-mod Divisions
 pub mod Codes

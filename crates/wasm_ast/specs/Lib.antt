@@ -5,12 +5,12 @@ pub mod View
 pub mod Modules
 pub mod Representable
 pub mod Limits
--- Semantics that the engine's crates share (sections 3 and 4): values, the widths of loads and stores, and the types
--- and values of numeric instructions.
+-- Semantics that the engine's crates share (sections 3 and 4): values, the widths of loads and stores, values as signed
+-- numbers, and the types of numeric instructions.
 pub mod Values
 pub mod Widths
-pub mod NumericTypes
 pub mod Numeric
+pub mod NumericTypes
 -- recursion over a body ends: for the proofs of every crate
 pub mod Falls
 -- definitions that only mirror the code, for its proofs

@@ -1,5 +1,4 @@
-//! The syntax of WebAssembly modules with integers only (Core 1.0, section 2), and the value of each
-//! numeric instruction (4.3).
+//! The syntax of WebAssembly modules with integers only (Core 1.0, section 2).
 #![tactic(auto)]
 
 mod body;
@@ -13,108 +12,15 @@ mod same;
 mod sequence;
 mod types;
 
-pub use body::Body;
-pub use body::Instr;
-pub use limits::MAX_ALIGN;
-pub use limits::MAX_FUNCTIONS;
-pub use limits::MAX_LABELS;
-pub use limits::MAX_LOCALS;
-pub use limits::MAX_MODULE_BYTES;
-pub use limits::MAX_NESTING;
-pub use limits::MAX_PARAMETERS;
-pub use limits::MAX_RESULTS;
-pub use limits::imported_function_count;
-pub use limits::parameter_count;
-pub use limits::within_limits;
-pub use module::Data;
-pub use module::Element;
-pub use module::Export;
-pub use module::ExportDescription;
-pub use module::Function;
-pub use module::Global;
-pub use module::Import;
-pub use module::ImportDescription;
-pub use module::Module;
-pub use numeric::Binary;
-pub use numeric::Comparison;
-pub use numeric::Conversion;
-pub use numeric::Division;
-pub use numeric::Numeric;
-pub use numeric::Unary;
-pub use numeric::convert::i32_wrap_i64;
-pub use numeric::convert::i64_extend_i32_s;
-pub use numeric::convert::i64_extend_i32_u;
-pub use numeric::i32::i32_add;
-pub use numeric::i32::i32_and;
-pub use numeric::i32::i32_clz;
-pub use numeric::i32::i32_ctz;
-pub use numeric::i32::i32_div_s;
-pub use numeric::i32::i32_div_u;
-pub use numeric::i32::i32_eq;
-pub use numeric::i32::i32_eqz;
-pub use numeric::i32::i32_ge_s;
-pub use numeric::i32::i32_ge_u;
-pub use numeric::i32::i32_gt_s;
-pub use numeric::i32::i32_gt_u;
-pub use numeric::i32::i32_le_s;
-pub use numeric::i32::i32_le_u;
-pub use numeric::i32::i32_lt_s;
-pub use numeric::i32::i32_lt_u;
-pub use numeric::i32::i32_mul;
-pub use numeric::i32::i32_ne;
-pub use numeric::i32::i32_or;
-pub use numeric::i32::i32_popcnt;
-pub use numeric::i32::i32_rem_s;
-pub use numeric::i32::i32_rem_u;
-pub use numeric::i32::i32_rotl;
-pub use numeric::i32::i32_rotr;
-pub use numeric::i32::i32_shl;
-pub use numeric::i32::i32_shr_s;
-pub use numeric::i32::i32_shr_u;
-pub use numeric::i32::i32_sub;
-pub use numeric::i32::i32_xor;
-pub use numeric::i64::i64_add;
-pub use numeric::i64::i64_and;
-pub use numeric::i64::i64_clz;
-pub use numeric::i64::i64_ctz;
-pub use numeric::i64::i64_div_s;
-pub use numeric::i64::i64_div_u;
-pub use numeric::i64::i64_eq;
-pub use numeric::i64::i64_eqz;
-pub use numeric::i64::i64_ge_s;
-pub use numeric::i64::i64_ge_u;
-pub use numeric::i64::i64_gt_s;
-pub use numeric::i64::i64_gt_u;
-pub use numeric::i64::i64_le_s;
-pub use numeric::i64::i64_le_u;
-pub use numeric::i64::i64_lt_s;
-pub use numeric::i64::i64_lt_u;
-pub use numeric::i64::i64_mul;
-pub use numeric::i64::i64_ne;
-pub use numeric::i64::i64_or;
-pub use numeric::i64::i64_popcnt;
-pub use numeric::i64::i64_rem_s;
-pub use numeric::i64::i64_rem_u;
-pub use numeric::i64::i64_rotl;
-pub use numeric::i64::i64_rotr;
-pub use numeric::i64::i64_shl;
-pub use numeric::i64::i64_shr_s;
-pub use numeric::i64::i64_shr_u;
-pub use numeric::i64::i64_sub;
-pub use numeric::i64::i64_xor;
-pub use plain::Branch;
-pub use plain::Load;
-pub use plain::Memory;
-pub use plain::MemoryArgument;
-pub use plain::Plain;
-pub use plain::Store;
-pub use plain::Variable;
-pub use sequence::Name;
-pub use sequence::Sequence;
-pub use types::BlockType;
-pub use types::FuncType;
-pub use types::GlobalType;
-pub use types::Limits;
-pub use types::Mutability;
-pub use types::ValType;
-pub use types::Value;
+pub use body::{Body, Instr};
+pub use limits::{
+    MAX_ALIGN, MAX_FUNCTIONS, MAX_LABELS, MAX_LOCALS, MAX_MODULE_BYTES, MAX_NESTING,
+    MAX_PARAMETERS, MAX_RESULTS, imported_function_count, parameter_count, within_limits,
+};
+pub use module::{
+    Data, Element, Export, ExportDescription, Function, Global, Import, ImportDescription, Module,
+};
+pub use numeric::{Binary, Comparison, Conversion, Division, Numeric, Unary};
+pub use plain::{Branch, Load, Memory, MemoryArgument, Plain, Store, Variable};
+pub use sequence::{Name, Sequence};
+pub use types::{BlockType, FuncType, GlobalType, Limits, Mutability, ValType, Value};

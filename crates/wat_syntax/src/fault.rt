@@ -1,8 +1,7 @@
 //! Why a text is no module.
 
 ghost use Rattle.std.specs.Prelude.{◌≡◌, Some};
-ghost use Rattle.std.specs.Fmt.{DisplaysOnOk};
-ghost use Rattle.wat_syntax.specs.Faults.{fault_text, word_at};
+ghost use Rattle.wat_syntax.specs.Faults.{fault_text};
 ghost use Rattle.wat_syntax.specs.declared.fault.Failure.TheVariants.{OutOfMemory};
 
 use std::alloc::{AllocError, AllocFailed};
@@ -43,29 +42,34 @@ impl fmt::Display for TextFault {
     ghost output = { λ fault. Some (fault_text fault) };
 
     fn fmt<W: fmt::Write>(&self, f: &mut fmt::Formatter<W>) -> fmt::Result {
-        match self {
-            TextFault::Lex(place) => write_word_at("Lex", place, f),
-            TextFault::Syntax(place) => write_word_at("Syntax", place, f),
-            TextFault::UnknownName(place) => write_word_at("UnknownName", place, f),
-            TextFault::DuplicateName(place) => write_word_at("DuplicateName", place, f),
-            TextFault::NumberRange(place) => write_word_at("NumberRange", place, f),
-            TextFault::TypeUse(place) => write_word_at("TypeUse", place, f),
-            TextFault::Unsupported(place) => write_word_at("Unsupported", place, f),
-            TextFault::OverLimit(place) => write_word_at("OverLimit", place, f),
-            TextFault::OutOfMemory => f.write_str("OutOfMemory - -"),
+        match self.word_and_place() {
+            Some((word, place)) => write!(f, "{word} {} {}", place.line, place.column),
+            None => f.write_str("OutOfMemory - -"),
         }
     }
 }
 
-fn write_word_at<W: fmt::Write>(
-    word: &str,
-    place: &Position,
-    f: &mut fmt::Formatter<W>,
-) -> fmt::Result
-    ensures { DisplaysOnOk W.write_str_gives f.old result
-        (Some (word_at word.now place.now)) f.new }
-{
-    write!(f, "{word} {} {}", place.line, place.column)
+impl TextFault {
+    ghost use Rattle.std.specs.Prelude.{◌≡◌, IfNone, IfSome, codes};
+    ghost use Rattle.wat_syntax.specs.Faults.{fault_text, word_at};
+
+    // Returns the word of the fault and its position, where it has one.
+    fn word_and_place(&self) -> Option<(&'static str, Position)>
+        ensures placed { IfSome result (λ x. fault_text self.now ≡ word_at x.0.now x.1) }
+        ensures placeless { IfNone result (fault_text self.now ≡ codes "OutOfMemory - -") }
+    {
+        match self {
+            TextFault::Lex(place) => Some(("Lex", *place)),
+            TextFault::Syntax(place) => Some(("Syntax", *place)),
+            TextFault::UnknownName(place) => Some(("UnknownName", *place)),
+            TextFault::DuplicateName(place) => Some(("DuplicateName", *place)),
+            TextFault::NumberRange(place) => Some(("NumberRange", *place)),
+            TextFault::TypeUse(place) => Some(("TypeUse", *place)),
+            TextFault::Unsupported(place) => Some(("Unsupported", *place)),
+            TextFault::OverLimit(place) => Some(("OverLimit", *place)),
+            TextFault::OutOfMemory => None,
+        }
+    }
 }
 
 /// Writes the same text as `Display`.

@@ -5,13 +5,13 @@ ghost use Rattle.wasm_ast.specs.declared.module.ImportDescription.TheVariants as
 ghost use Rattle.wasm_ast.specs.Limits.{IsBodyWithin};
 ghost use Rattle.wat_syntax.specs.inside.Writing.{Writes};
 ghost use Rattle.wat_syntax.specs.Instructions.{code, type_word};
-ghost use Rattle.wat_syntax.specs.Layout.{begins, data_field, element_field, export_description, export_field, function_field, global_field, global_type, import_description, import_field, limits, maximum_part, memory_field, number_part, numbered, offset, start_field, table_field, type_field, type_group};
+ghost use Rattle.wat_syntax.specs.Layout.{begins, data_field, element_field, export_description, export_field, function_field, global_field, global_type, import_description, import_field, limits, maximum_part, memory_field, number_part, offset, start_field, table_field, type_field, type_group};
 
 use crate::instructions::{write_code, write_type_use};
 use crate::keyword::Keyword;
 use crate::pieces::{
     Gap, Part, write_closing, write_closing_line, write_count, write_each, write_keyword,
-    write_opening, write_string,
+    write_number_in, write_opening, write_string,
 };
 use std::alloc::AllocError;
 use wasm_ast::{
@@ -241,15 +241,6 @@ impl Part for Global {
     }
 }
 
-// Writes the keyword and the index of an exported item.
-fn write_numbered(text: &mut String, keyword: Keyword, n: u32) -> Result<(), AllocError>
-    ensures { Writes text.old text.new result (numbered keyword n) }
-{
-    write_opening(text, Gap::Space, keyword)?;
-    write_count(text, n)?;
-    write_closing(text)
-}
-
 fn write_export_description(
     text: &mut String,
     description: ExportDescription,
@@ -257,10 +248,10 @@ fn write_export_description(
     ensures { Writes text.old text.new result (export_description description) }
 {
     match description {
-        ExportDescription::Function(n) => write_numbered(text, Keyword::Func, n),
-        ExportDescription::Table(n) => write_numbered(text, Keyword::Table, n),
-        ExportDescription::Memory(n) => write_numbered(text, Keyword::Memory, n),
-        ExportDescription::Global(n) => write_numbered(text, Keyword::Global, n),
+        ExportDescription::Function(n) => write_number_in(text, Gap::Space, Keyword::Func, n),
+        ExportDescription::Table(n) => write_number_in(text, Gap::Space, Keyword::Table, n),
+        ExportDescription::Memory(n) => write_number_in(text, Gap::Space, Keyword::Memory, n),
+        ExportDescription::Global(n) => write_number_in(text, Gap::Space, Keyword::Global, n),
     }
 }
 
@@ -284,11 +275,7 @@ pub fn write_start(text: &mut String, start: Option<u32>) -> Result<(), AllocErr
 {
     match start {
         None => Ok(()),
-        Some(n) => {
-            write_beginning(text, Keyword::Start)?;
-            write_count(text, n)?;
-            write_closing(text)
-        }
+        Some(n) => write_number_in(text, Gap::Line(1), Keyword::Start, n),
     }
 }
 

@@ -11,7 +11,7 @@ ghost use Rattle.wat_syntax.specs.Instructions.{HasRoom, align_part, block_type,
 use crate::keyword::Keyword;
 use crate::pieces::{
     Gap, Part, write_alignment, write_closing, write_count, write_each, write_i32, write_i64,
-    write_keyword, write_offset, write_opening,
+    write_keyword, write_number_in, write_offset, write_opening,
 };
 use std::alloc::AllocError;
 use wasm_ast::{
@@ -22,9 +22,7 @@ use wasm_ast::{
 pub fn write_type_use(text: &mut String, type_number: u32) -> Result<(), AllocError>
     ensures { Writes text.old text.new result (type_use type_number) }
 {
-    write_opening(text, Gap::Space, Keyword::FuncType)?;
-    write_count(text, type_number)?;
-    write_closing(text)
+    write_number_in(text, Gap::Space, Keyword::FuncType, type_number)
 }
 
 /// Writes a number with a blank before it.

@@ -158,6 +158,21 @@ pub fn write_closing_line(text: &mut String, level: u32) -> Result<(), AllocErro
     text.push_str(")")
 }
 
+/// Writes these blanks, and a keyword and a number in parentheses.
+pub fn write_number_in(
+    text: &mut String,
+    gap: Gap,
+    keyword: Keyword,
+    n: u32,
+) -> Result<(), AllocError>
+    ensures { Writes text.old text.new result
+        (λ more. opens gap keyword ∷ counts n ∷ closes ∷ more) }
+{
+    write_opening(text, gap, keyword)?;
+    write_count(text, n)?;
+    write_closing(text)
+}
+
 /// A part of a module that is printed as pieces of its own.
 pub trait Part {
     /// The type of the part.

@@ -18,12 +18,13 @@ ghost use Rattle.worker_loops.specs.inside.Joins.{AddsCounted, HasJoined};
 ghost use Rattle.worker_loops.specs.inside.Returning.{AddsReturn, AddsReturns, HasReturned};
 
 use crate::gate::{Gate, Turn, Worked};
+use compute::run_task;
 use events::Event;
 use hub_ends::{TickPass, TickReceipt, VerdictReader, WorkerPass, WorkerReceipt};
 use interp::Scratch;
 use std::alloc::Global;
 use std::sync::Wait;
-use superstep::{Done, Found, Job, JobFault, Origin, Place, Task, TaskLost, run_task};
+use superstep::{Done, Found, Job, JobFault, Origin, Place, Task, TaskLost};
 
 /// The ends of a worker that has said bye.
 #[derive(Drop)]

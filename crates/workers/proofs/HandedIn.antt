@@ -4,7 +4,7 @@ use Rattle.std.proofs.Common.{◌≡◌, ◌≢◌, ℕ, ◌+◌, ◌<◌, List,
 use Rattle.job_state.specs.declared.fault.JobFault.{JobFault}
 use Rattle.events.specs.declared.event.Event.{Event}
 use Rattle.events.specs.declared.event.Event.TheVariants as event
-use Rattle.rollback.specs.declared.report.Report.{Report}
+use Rattle.book.specs.declared.report.Report.{Report}
 use Rattle.events.specs.Events.{stamp_of}
 use Rattle.event_loop.specs.JobAnswers.{HasSpent, WhereEnded}
 use Rattle.hub_ends.specs.Hub.{HasByes, received, staff}

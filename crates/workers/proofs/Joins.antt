@@ -5,7 +5,7 @@ use Rattle.superstep.specs.Job.{Work}
 use Rattle.job_state.specs.declared.fault.JobFault.{JobFault}
 use Rattle.events.specs.declared.event.Event.{Event}
 use Rattle.events.specs.declared.event.Event.TheVariants as happened
-use Rattle.rollback.specs.declared.report.Report.{Report}
+use Rattle.book.specs.declared.report.Report.{Report}
 use Rattle.events.specs.Events.{stamp_of}
 use Rattle.control.specs.Machine.{Machine}
 use Rattle.channels.specs.Orders.{at}

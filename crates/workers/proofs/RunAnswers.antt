@@ -6,7 +6,7 @@ use Rattle.job_state.specs.declared.fault.JobFault.{JobFault}
 use Rattle.job_state.specs.declared.fault.JobFault.TheVariants.{Closed, NoWorkers, OutOfMemory, Settings, ThreadRefused}
 use Rattle.job_state.specs.declared.fault.Place.{Place}
 use Rattle.job_state.specs.declared.fault.Place.TheVariants as place
-use Rattle.rollback.specs.declared.report.Report.{Report}
+use Rattle.book.specs.declared.report.Report.{Report}
 use Rattle.control.specs.Machine.{Machine}
 use Rattle.event_loop.specs.JobAnswers.{EndedOver, EndedOverOwn, IsKeptRun, IsKeptRunOn, RanOn, RanOnOwn, WhereBegun, WhereConnected, WhereOpened, WhereRun}
 use Rattle.event_loop.specs.Joining.{JoinedFrom, JoinedOn, JoinedOver}

@@ -1,6 +1,6 @@
 -- The units of workers, as their receipts show them.
 use Rattle.std.specs.Prelude.{◌≡◌, ◌+◌, ℕ, Option, Some, None, List, [], ◌∷◌, slice_index_or}
-use Rattle.rollback.specs.declared.report.Report.{Report}
+use Rattle.book.specs.declared.report.Report.{Report}
 use Rattle.hub_ends.specs.Passes.{handed_in_by}
 use Rattle.worker_loops.specs.Numbers.{stamps_in}
 use Rattle.event_loop.specs.Units.{cut, units_by}

@@ -1,7 +1,7 @@
 -- What a coordinator received and sent. It has its ends, except while `run_job` lends them to its threads.
 use Rattle.std.specs.Prelude.{◌≡◌, ℕ, Option, Some, None, List, [], true}
 use Rattle.std.specs.Global.{Vec}
-use Rattle.rollback.specs.declared.report.Report.{Report}
+use Rattle.book.specs.declared.report.Report.{Report}
 use Rattle.hub_ends.specs.Hub as hub
 use Rattle.channels.specs.Orders.{at, stops}
 use Rattle.channels.specs.Protocol.{has_bye}

@@ -3,9 +3,9 @@
 ghost use Rattle.std.specs.Thread.{IsSync};
 ghost use Rattle.std.specs.Prelude.{◌≡◌, ◌<◌, false, true, map, vec_len, IfErr, IfOk, Some};
 ghost use Rattle.control.specs.Machine.{count_set};
-ghost use Rattle.rollback.specs.Saving.{HasLeft, KeepsFor};
+ghost use Rattle.book.specs.Saving.{HasLeft, KeepsFor};
 ghost use Rattle.checkpoint.specs.Keep.{LoadsNothingElse};
-ghost use Rattle.rollback.specs.Simulation.{NeverFails};
+ghost use Rattle.book.specs.Calm.{NeverFails};
 ghost use Rattle.event_loop.specs.JobAnswers.{HasSpent, IsCalmReport, IsDriveFault, IsRunFault, EndedOver, EndedOverOwn, LoadsMadeAt, RanFromKeep, RanOn, RanOnOwn, WhereEnded, WhereRefused, WhereRun, has_ended};
 ghost use Rattle.workers.specs.Coordinator as lent;
 ghost use Rattle.hub_ends.specs.Hub.{HasByes, IsNewHubOf, IsSameHub, IsUnused, handed, received, staff};
@@ -16,10 +16,10 @@ ghost use Rattle.event_loop.specs.inside.EventLoop.{IsUnspent};
 ghost use Rattle.worker_threads.specs.inside.Joins.{AreLinked};
 
 use crate::coordinator::Coordinator;
+use book::{Book, Report};
 use checkpoint::{Device, Keep};
 use event_loop::drive;
 use hub_ends::{CoordinatorEnds, TickPass, VerdictSender, WorkerPass};
-use rollback::{Book, Report};
 use std::alloc::Global;
 use std::sync::Wait;
 use std::thread;

@@ -1,17 +1,17 @@
 //! Running a job in threads over a hub of its own.
 
 ghost use Rattle.std.specs.Prelude.{◌≡◌, ◌<◌, false, true, IfErr, IfOk, Some};
-ghost use Rattle.rollback.specs.Saving.{HasLeft};
+ghost use Rattle.book.specs.Saving.{HasLeft};
 ghost use Rattle.superstep.specs.Ending.{IsEndOf};
 ghost use Rattle.superstep.specs.Tasks.{trusts};
 ghost use Rattle.checkpoint.specs.Keep.{LoadsNothingElse};
-ghost use Rattle.rollback.specs.Simulation.{NeverFails};
+ghost use Rattle.book.specs.Calm.{NeverFails};
 ghost use Rattle.event_loop.specs.JobAnswers.{IsCalmReport, IsKeptRun, IsKeptRunOn, IsRunFault, LoadsMadeAt, WhereBegun};
 
 use crate::hub::Hub;
 use crate::run::{resume_job, run_job};
+use book::Report;
 use checkpoint::{Device, Keep};
-use rollback::Report;
 use std::alloc::Global;
 use std::marker::Brand;
 use std::sync::Wait;

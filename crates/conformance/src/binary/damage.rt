@@ -3,77 +3,80 @@
 use super::bounded::is_bounded;
 use super::sweep::{ALL, EVERYWHERE, changes};
 use crate::modules::{boxed, decoded, spelling};
-use std::alloc::{AllocError, Global};
-use std::fmt;
+use conformance_cases::Line;
+use std::alloc::Global;
 use wasm_ast::Module;
 use wasm_decode::{DecodeFault, DecodeRule, decode};
 
 /// Writes what becomes of the bytes, damaged in each way.
-pub fn tell_damaged(alloc: Global, bytes: &[u8], line: &mut String) -> Result<(), AllocError> {
-    let fates = fates_of_changes(alloc, bytes)?;
-    let fronts = Fronts::of(alloc, bytes)?;
-    write!(
-        line,
-        "{} bytes; fronts: {fronts}; changes: {fates}",
-        bytes.len()
-    )
-}
-
-// Tries every other byte at each place.
-fn fates_of_changes(alloc: Global, bytes: &[u8]) -> Result<Fates, AllocError> {
-    let mut bytes = Vec::from_slice(alloc, bytes)?;
-    Ok(changes(alloc, &mut bytes, EVERYWHERE, ALL))
+pub fn tell_damaged(alloc: Global, bytes: &[u8], line: &mut Line) {
+    line.show(&bytes.len());
+    line.put(" bytes; fronts: ");
+    Fronts::of(alloc, bytes).tell(line);
+    match Vec::from_slice(alloc, bytes) {
+        Ok(mut bytes) => changes(alloc, &mut bytes, EVERYWHERE, ALL).tell(line),
+        Err(_) => line.cut(),
+    }
 }
 
 // The answers to the proper fronts.
 #[derive(Drop)]
 struct Fronts {
     // the lengths of those that are modules, and whose shortest spelling is a spelling of the same module
-    modules: Vec<usize>,
+    modules: Line,
     // the lengths of those that lack the bodies of their functions
-    without_bodies: Vec<usize>,
+    without_bodies: Line,
     // how many end within a part, and are reported as truncated
     truncated: usize,
 }
 
-impl fmt::Display for Fronts {
-    fn fmt<W: fmt::Write>(&self, f: &mut fmt::Formatter<W>) -> fmt::Result {
-        write!(f, "{:?} decode, ", self.modules)?;
-        write!(f, "{:?} CountMismatch, ", self.without_bodies)?;
-        write!(f, "{} Truncated", self.truncated)
-    }
-}
-
 impl Fronts {
-    fn of(alloc: Global, bytes: &[u8]) -> Result<Fronts, AllocError> {
+    fn of(alloc: Global, bytes: &[u8]) -> Fronts {
         let mut fronts = Fronts {
-            modules: Vec::new(alloc),
-            without_bodies: Vec::new(alloc),
+            modules: Line::new(alloc),
+            without_bodies: Line::new(alloc),
             truncated: 0,
         };
         for length in 0..bytes.len() {
-            let fate = fate_of(alloc, &bytes[..length]);
-            fronts.take(length, fate)?;
+            fronts.take(length, fate_of(alloc, &bytes[..length]));
         }
-        Ok(fronts)
+        fronts
     }
 
     // Counts the fate of the front of this length.
-    fn take(&mut self, length: usize, fate: Fate) -> Result<(), AllocError> {
+    fn take(&mut self, length: usize, fate: Fate) {
         match fate {
-            Fate::Kept => self.modules.push(length)?,
-            Fate::Refused(DecodeFault::Refused(DecodeRule::CountMismatch, place))
-                if place == length => {
-                self.without_bodies.push(length)?;
+            Fate::Kept => list(length, &mut self.modules),
+            Fate::Refused(DecodeFault::Refused(rule, place)) if place == length => {
+                self.take_refused(length, rule);
             }
-            Fate::Refused(DecodeFault::Refused(DecodeRule::Truncated, place)) if place == length =>
-                {
-                    self.truncated = self.truncated.saturating_add(1);
-                }
             _ => {}
         }
-        Ok(())
     }
+
+    // Counts a front that is refused at its end.
+    fn take_refused(&mut self, length: usize, rule: DecodeRule) {
+        match rule {
+            DecodeRule::CountMismatch => list(length, &mut self.without_bodies),
+            DecodeRule::Truncated => self.truncated = self.truncated.saturating_add(1),
+            _ => {}
+        }
+    }
+
+    fn tell(&self, line: &mut Line) {
+        line.put("[");
+        line.append(&self.modules);
+        line.put("] decode, [");
+        line.append(&self.without_bodies);
+        line.add("] CountMismatch, ", &self.truncated);
+        line.put(" Truncated");
+    }
+}
+
+// Appends a length to a list of them.
+fn list(length: usize, lengths: &mut Line) {
+    let gap = if lengths.is_empty() { "" } else { ", " };
+    lengths.add(gap, &length);
 }
 
 /// The fate of bytes.
@@ -94,13 +97,6 @@ pub struct Fates {
     pub lost: u64,
 }
 
-impl fmt::Display for Fates {
-    fn fmt<W: fmt::Write>(&self, f: &mut fmt::Formatter<W>) -> fmt::Result {
-        write!(f, "{} refused, ", self.refused)?;
-        write!(f, "{} kept, {} lost", self.kept, self.lost)
-    }
-}
-
 impl Fates {
     pub fn new() -> Fates {
         Fates {
@@ -116,6 +112,13 @@ impl Fates {
             Fate::Kept => self.kept = self.kept.saturating_add(1),
             Fate::Lost => self.lost = self.lost.saturating_add(1),
         }
+    }
+
+    fn tell(self, line: &mut Line) {
+        line.add("; changes: ", &self.refused);
+        line.add(" refused, ", &self.kept);
+        line.add(" kept, ", &self.lost);
+        line.put(" lost");
     }
 
     pub fn count(self) -> u64 {

@@ -1,18 +1,13 @@
 //! Bytes with sizes before them.
 
-use conformance_cases::{push_digits, spelled};
+use conformance_cases::push_digits;
 use leb::write_u32;
 use std::alloc::{AllocError, Global};
 use std::mem;
 
-/// Reads the bytes of a line as `conformance_cases::bytes` does. In addition `[ .. ]` is the number of bytes inside, in
-/// LEB128, followed by them. Brackets have blanks around them.
-pub fn sized_bytes(alloc: Global, line: &str) -> Result<Vec<u8>, AllocError> {
-    let text = spelled(alloc, line)?;
-    of_words(alloc, text.as_str())
-}
-
-fn of_words(alloc: Global, text: &str) -> Result<Vec<u8>, AllocError> {
+/// Reads the bytes of a spelled text as `conformance_cases::bytes` does. In addition `[ .. ]` is the number of bytes inside,
+/// in LEB128, followed by them. Brackets have blanks around them.
+pub fn sized_bytes(alloc: Global, text: &str) -> Result<Vec<u8>, AllocError> {
     let mut outside = Vec::new(alloc);
     let mut bytes = Vec::new(alloc);
     for word in text.split_ascii_whitespace() {

@@ -1,7 +1,8 @@
 //! The bytes of a module, damaged: each proper front, and each byte changed to others.
 
 use super::damage::{Fates, change, fate_of};
-use std::alloc::{AllocError, Global};
+use conformance_cases::Line;
+use std::alloc::Global;
 
 /// The other bytes that are tried at a place: their number, and the distance between them. The first differs in the last
 /// bit only.
@@ -41,18 +42,15 @@ impl Places {
 }
 
 /// Tries the fronts that end at these places and the changes there. Writes their numbers, and how many are lost.
-pub fn swept(
-    alloc: Global,
-    bytes: &mut [u8],
-    places: Places,
-    others: Others,
-    line: &mut String,
-) -> Result<(), AllocError> {
+pub fn swept(alloc: Global, bytes: &mut [u8], places: Places, others: Others, line: &mut Line) {
     let fronts = fronts(alloc, bytes, places);
     let changes = changes(alloc, bytes, places, others);
     let lost = fronts.lost.saturating_add(changes.lost);
     let (fronts, changes) = (fronts.count(), changes.count());
-    write!(line, "{fronts} fronts and {changes} changes, {lost} lost")
+    line.show(&fronts);
+    line.add(" fronts and ", &changes);
+    line.add(" changes, ", &lost);
+    line.put(" lost");
 }
 
 fn fronts(alloc: Global, bytes: &[u8], places: Places) -> Fates {

@@ -2,25 +2,20 @@
 //! messages and 0 to 4 edges, the first ones of `interp/alike-input.txt`.
 
 use super::forms::is_alike;
-use crate::modules::{line_of, verified_of};
+use crate::modules::verified_of;
 use anyhow::Result;
 use call_lines::Input;
-use conformance_cases::{CaseFiles, show_texts};
+use conformance_cases::{CaseFiles, Line};
 use interp::Scratch;
 use std::alloc::{AllocError, Global};
 use verified::{CallInput, Verified};
 
-pub fn show(rt: &(impl CaseFiles + Print + AllocGlobal)) -> Result<()> {
-    let input = read_input(rt)?;
-    show_programs(rt, &input.call_input())
-}
-
-fn show_programs(rt: &(impl CaseFiles + Print + AllocGlobal), input: &CallInput) -> Result<()> {
-    show_texts(
-        rt,
-        "interp/alike.txt",
-        |alloc, text| answer(alloc, text, input),
-    )
+/// Writes for how many inputs both forms of a program's call give the same answer.
+pub fn answer(rt: &(impl CaseFiles + AllocGlobal), text: &str, line: &mut Line) {
+    match read_input(rt) {
+        Ok(input) => tell(rt.alloc(), text, &input.call_input(), line),
+        Err(error) => line.show(&error),
+    }
 }
 
 /// Reads the input, which has all messages and edges.
@@ -29,20 +24,21 @@ pub fn read_input(rt: &(impl CaseFiles + AllocGlobal)) -> Result<Input> {
     Ok(Input::read(rt.alloc(), lines.as_str())?)
 }
 
-fn answer(alloc: Global, text: &str, input: &CallInput) -> Result<String, AllocError> {
+fn tell(alloc: Global, text: &str, input: &CallInput, line: &mut Line) {
     match verified_of(alloc, text) {
-        Ok(verified) => alike_answer(alloc, &verified, input),
-        Err(fault) => line_of(alloc, fault),
+        Ok(verified) => tell_alike(alloc, &verified, input, line),
+        Err(fault) => line.show(&fault),
     }
 }
 
-fn alike_answer(
-    alloc: Global,
-    verified: &Verified,
-    input: &CallInput,
-) -> Result<String, AllocError> {
-    let alike = alike_count(alloc, verified, input)?;
-    format!(in alloc; "{alike} alike")
+fn tell_alike(alloc: Global, verified: &Verified, input: &CallInput, line: &mut Line) {
+    match alike_count(alloc, verified, input) {
+        Ok(alike) => {
+            line.show(&alike);
+            line.put(" alike");
+        }
+        Err(_) => line.cut(),
+    }
 }
 
 fn alike_count(alloc: Global, verified: &Verified, input: &CallInput) -> Result<u32, AllocError> {

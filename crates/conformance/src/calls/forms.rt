@@ -2,14 +2,14 @@
 //! outcome, or why there is none.
 
 ghost use Rattle.std.specs.Prelude.{◌≡◌};
-ghost use Rattle.interp.specs.Bounded.{HasIds};
+ghost use Rattle.semantics.specs.Bounded.{HasIds};
 
 use crate::reference_call;
 use bounded_profile::verify;
 use call_lines::outcome_text;
+use conformance_cases::Line;
 use interp::{Scratch, has_ids, run};
 use std::alloc::{AllocError, Global};
-use std::fmt::Debug;
 use verified::{CallInput, CallOutcome, Valid, Verified};
 use wasm_ast::Module;
 
@@ -18,36 +18,31 @@ const ENOUGH: u128 = 1_000_000;
 
 /// Writes the answer of the reference call, and that of `interp` if the module is in the bounded profile and the answers
 /// differ. The reference call alone stops at a budget.
-pub fn tell_both(
-    alloc: Global,
-    valid: Valid,
-    input: &CallInput,
-    budget: u128,
-    line: &mut String,
-) -> Result<(), AllocError> {
-    let slow = reference_call::run(alloc, valid.module(), input, budget);
-    tell(alloc, slow, line)?;
-    if line.as_str() == "Budget" {
-        return Ok(());
+pub fn tell_both(alloc: Global, valid: Valid, input: &CallInput, budget: u128, line: &mut Line) {
+    let Ok(slow) = slow_answer(alloc, valid.module(), input, budget) else {
+        return line.cut();
+    };
+    line.put(slow.as_str());
+    if slow.as_str() == "Budget" {
+        return;
     }
-    match verify(alloc, valid) {
-        Ok(verified) => tell_otherwise(alloc, &verified, input, line),
-        Err(_) => Ok(()),
+    if let Ok(verified) = verify(alloc, valid) {
+        tell_otherwise(alloc, &verified, input, slow.as_str(), line);
     }
 }
 
-// Appends the answer of `interp` if it is not the one in the line.
+// Writes the answer of `interp` if it is not the slow one.
 fn tell_otherwise(
     alloc: Global,
     verified: &Verified,
     input: &CallInput,
-    line: &mut String,
-) -> Result<(), AllocError> {
-    let fast = fast_answer(alloc, verified, input)?;
-    if line.as_str() == fast.as_str() {
-        Ok(())
-    } else {
-        write!(line, ", but fast {fast}")
+    slow: &str,
+    line: &mut Line,
+) {
+    match fast_answer(alloc, verified, input) {
+        Ok(fast) if fast.as_str() != slow => line.add(", but fast ", &fast),
+        Ok(_) => {}
+        Err(_) => line.cut(),
     }
 }
 
@@ -57,7 +52,12 @@ fn slow_answer(
     input: &CallInput,
     budget: u128,
 ) -> Result<String, AllocError> {
-    told(alloc, reference_call::run(alloc, module, input, budget))
+    let mut line = Line::new(alloc);
+    match reference_call::run(alloc, module, input, budget) {
+        Ok(outcome) => tell_outcome(alloc, &outcome, &mut line),
+        Err(stop) => line.debug(&stop),
+    }
+    line.finish()
 }
 
 /// Returns whether both forms give the same answer. The calls of `interp` use these buffers.
@@ -67,20 +67,21 @@ pub fn is_alike(
     input: &CallInput,
     scratch: &mut Scratch,
 ) -> Result<bool, AllocError> {
-    let slow = slow_answer(alloc, verified.module(), input, ENOUGH)?;
-    is_fast_answer(alloc, verified, input, scratch, slow.as_str())
+    let fast = second_answer(alloc, verified, input, scratch)?;
+    is_slow_answer(alloc, verified.module(), input, fast.as_str())
 }
 
-// Returns whether `interp` gives this answer.
-fn is_fast_answer(
+// Returns whether the reference call gives this answer.
+fn is_slow_answer(
     alloc: Global,
-    verified: &Verified,
+    module: &Module,
     input: &CallInput,
-    scratch: &mut Scratch,
     answer: &str,
 ) -> Result<bool, AllocError> {
-    let fast = second_answer(alloc, verified, input, scratch)?;
-    Ok(answer == fast.as_str())
+    match slow_answer(alloc, module, input, ENOUGH) {
+        Ok(slow) => Ok(slow.as_str() == answer),
+        Err(error) => Err(error),
+    }
 }
 
 // Returns the answer of `interp` to the second of two calls, which uses the buffers of the first.
@@ -89,8 +90,10 @@ fn fast_answer(
     verified: &Verified,
     input: &CallInput,
 ) -> Result<String, AllocError> {
-    let mut scratch = Scratch::new(alloc, verified)?;
-    second_answer(alloc, verified, input, &mut scratch)
+    match Scratch::new(alloc, verified) {
+        Ok(mut scratch) => second_answer(alloc, verified, input, &mut scratch),
+        Err(error) => Err(error),
+    }
 }
 
 // Returns the answer of `interp` to the second of two calls in these buffers.
@@ -100,11 +103,14 @@ fn second_answer(
     input: &CallInput,
     scratch: &mut Scratch,
 ) -> Result<String, AllocError> {
-    if !has_ids(input) || !scratch.fits(verified) {
-        return String::from_str(alloc, "not called");
+    let mut line = Line::new(alloc);
+    if has_ids(input) && scratch.fits(verified) {
+        call_before(alloc, verified, input, scratch);
+        tell_fast(alloc, run(alloc, verified, input, scratch), &mut line);
+    } else {
+        line.put("not called");
     }
-    call_before(alloc, verified, input, scratch);
-    told(alloc, run(alloc, verified, input, scratch))
+    line.finish()
 }
 
 // Makes a call, and leaves its buffers to the next.
@@ -118,34 +124,16 @@ fn call_before(alloc: Global, verified: &Verified, input: &CallInput, scratch: &
     }
 }
 
-fn told<F: Debug + Drop>(
-    alloc: Global,
-    ended: Result<CallOutcome, F>,
-) -> Result<String, AllocError> {
-    let mut line = String::new(alloc);
-    tell(alloc, ended, &mut line)?;
-    Ok(line)
-}
-
-fn tell<F: Debug + Drop>(
-    alloc: Global,
-    ended: Result<CallOutcome, F>,
-    line: &mut String,
-) -> Result<(), AllocError> {
+fn tell_fast(alloc: Global, ended: Result<CallOutcome, AllocError>, line: &mut Line) {
     match ended {
         Ok(outcome) => tell_outcome(alloc, &outcome, line),
-        Err(fault) => write!(line, "{fault:?}"),
+        Err(error) => line.debug(&error),
     }
 }
 
-fn tell_outcome(alloc: Global, outcome: &CallOutcome, line: &mut String) -> Result<(), AllocError> {
-    let text = outcome_text(alloc, outcome)?;
-    push_on_one_line(text.as_str().trim_end(), line)
-}
-
-fn push_on_one_line(text: &str, line: &mut String) -> Result<(), AllocError> {
-    for character in text.chars() {
-        line.push(if character == '\n' { ' ' } else { character })?;
+fn tell_outcome(alloc: Global, outcome: &CallOutcome, line: &mut Line) {
+    match outcome_text(alloc, outcome) {
+        Ok(text) => line.put_lines(text.as_str().trim_end(), " "),
+        Err(_) => line.cut(),
     }
-    Ok(())
 }

@@ -12,8 +12,7 @@ mod writer;
 use super::alike::{read_input, shortened};
 use super::forms::is_alike;
 use crate::modules::verified_of;
-use anyhow::Result;
-use conformance_cases::{CaseFiles, show_texts};
+use conformance_cases::{CaseFiles, Line};
 use interp::Scratch;
 use modules::module_text;
 use std::alloc::{AllocError, Global};
@@ -28,47 +27,50 @@ const INPUTS: [(usize, usize); 4] = [(0, 0), (1, 2), (2, 0), (4, 4)];
 struct Tally {
     accepted: u32,
     alike: u32,
-    others: String,
+    others: Line,
 }
 
-pub fn show(rt: &(impl CaseFiles + Print + AllocGlobal)) -> Result<()> {
-    let input = read_input(rt)?;
-    show_ranges(rt, &input.call_input())
+/// Writes the tally of the modules of a range of seeds.
+pub fn answer(rt: &(impl CaseFiles + AllocGlobal), range: &str, line: &mut Line) {
+    match read_input(rt) {
+        Ok(input) => tell(rt.alloc(), range, &input.call_input(), line),
+        Err(error) => line.show(&error),
+    }
 }
 
-fn show_ranges(rt: &(impl CaseFiles + Print + AllocGlobal), input: &CallInput) -> Result<()> {
-    show_texts(
-        rt,
-        "interp/generated.txt",
-        |alloc, range| answer(alloc, range, input),
-    )
-}
-
-fn answer(alloc: Global, range: &str, input: &CallInput) -> Result<String, AllocError> {
+fn tell(alloc: Global, range: &str, input: &CallInput, line: &mut Line) {
     let (first, last) = range.split_once(" to ").unwrap_or((range, range));
     let seeds = first.parse::<u64>().unwrap_or(0)..=last.parse::<u64>().unwrap_or(0);
     let mut tally = Tally {
         accepted: 0,
         alike: 0,
-        others: String::new(alloc),
+        others: Line::new(alloc),
     };
     for seed in seeds {
-        tally.count(alloc, seed, input)?;
+        tally.count(alloc, seed, input);
     }
-    let Tally {
-        accepted,
-        alike,
-        others,
-    } = &tally;
-    format!(in alloc; "{accepted} accepted, {alike} alike{others}")
+    line.show(&tally.accepted);
+    line.add(" accepted, ", &tally.alike);
+    line.put(" alike");
+    line.append(&tally.others);
 }
 
 impl Tally {
-    fn count(&mut self, alloc: Global, seed: u64, input: &CallInput) -> Result<(), AllocError> {
-        let text = module_text(alloc, seed)?;
-        match verified_of(alloc, text.as_str()) {
-            Ok(verified) => self.count_verified(alloc, seed, &verified, &text, input),
-            Err(fault) => write!(self.others, "\n{seed}: {fault}: {text}"),
+    fn count(&mut self, alloc: Global, seed: u64, input: &CallInput) {
+        match module_text(alloc, seed) {
+            Ok(text) => self.count_text(alloc, seed, text.as_str(), input),
+            Err(_) => self.others.cut(),
+        }
+    }
+
+    fn count_text(&mut self, alloc: Global, seed: u64, text: &str, input: &CallInput) {
+        match verified_of(alloc, text) {
+            Ok(verified) => self.count_verified(alloc, seed, &verified, text, input),
+            Err(fault) => {
+                self.others.add("\n", &seed);
+                self.others.add(": ", &fault);
+                self.others.add(": ", &text);
+            }
         }
     }
 
@@ -79,14 +81,17 @@ impl Tally {
         verified: &Verified,
         text: &str,
         input: &CallInput,
-    ) -> Result<(), AllocError> {
-        let alike = alike_count(alloc, verified, input)?;
+    ) {
+        let Ok(alike) = alike_count(alloc, verified, input) else {
+            return self.others.cut();
+        };
         self.accepted = self.accepted.saturating_add(1);
         self.alike = self.alike.saturating_add(alike);
-        if alike as usize == INPUTS.len() {
-            return Ok(());
+        if alike as usize != INPUTS.len() {
+            self.others.add("\n", &seed);
+            self.others.add(": ", &alike);
+            self.others.add(" alike: ", &text);
         }
-        write!(self.others, "\n{seed}: {alike} alike: {text}")
     }
 }
 

@@ -1,12 +1,12 @@
 //! The fields of lines. `fields LINE` prints each in parentheses; `number FIELD` and `id FIELD` print the number.
 
+use conformance_cases::{Line, halves};
 use line_text::{Fields, id_of, number_of};
-use std::alloc::AllocError;
 use std::fmt::Display;
 
 /// Writes the fields of a line, or the number in a field.
-pub fn answer(case: &str, line: &mut String) -> Result<(), AllocError> {
-    let (question, text) = case.split_once(' ').unwrap_or((case, ""));
+pub fn answer(case: &str, line: &mut Line) {
+    let (question, text) = halves(case, " ");
     match question {
         "number" => tell_number(number_of(text.as_bytes()), line),
         "id" => tell_number(id_of(text.as_bytes()), line),
@@ -14,16 +14,17 @@ pub fn answer(case: &str, line: &mut String) -> Result<(), AllocError> {
     }
 }
 
-fn tell_fields(text: &str, line: &mut String) -> Result<(), AllocError> {
+fn tell_fields(text: &str, line: &mut Line) {
     for field in Fields::new(text) {
-        write!(line, "({})", str::from_utf8(field).unwrap_or("no text"))?;
+        line.put("(");
+        line.put(str::from_utf8(field).unwrap_or("no text"));
+        line.put(")");
     }
-    Ok(())
 }
 
-fn tell_number<N: Display + Drop>(number: Option<N>, line: &mut String) -> Result<(), AllocError> {
+fn tell_number<N: Display + Drop>(number: Option<N>, line: &mut Line) {
     match number {
-        Some(number) => write!(line, "{number}"),
-        None => line.push_str("none"),
+        Some(number) => line.show(&number),
+        None => line.put("none"),
     }
 }

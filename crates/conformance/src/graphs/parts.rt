@@ -5,31 +5,29 @@ ghost use Rattle.std.specs.Prelude.{◌<◌, IfSome};
 
 use super::tell_vertices;
 use anyhow::Result;
-use conformance_cases::{CaseFiles, show_cases};
+use conformance_cases::{CaseFiles, Line, halves};
 use graph::{Graph, Part, join, part_of, split};
 use std::alloc::{AllocError, Global};
 
-/// Shows the cases of parts.
-pub fn show(rt: &(impl CaseFiles + Print + AllocGlobal)) -> Result<()> {
-    show_cases(rt, "graph/parts.txt", |_, case| answer(rt, case))
-}
-
-fn answer(rt: &(impl CaseFiles + AllocGlobal), case: &str) -> Result<String> {
+/// Writes the part of an id, or the parts or the copy of a file's graph.
+pub fn answer(rt: &(impl CaseFiles + AllocGlobal), case: &str, line: &mut Line) {
     if let Some((id, parts)) = case.split_once(" among ") {
-        return Ok(part_told(rt.alloc(), id, parts)?);
+        return tell_part(id, parts, line);
     }
-    let (path, parts) = case.split_once(' ').unwrap_or((case, ""));
-    let graph = read(rt, path)?;
-    Ok(told(rt.alloc(), graph, parts)?)
+    let (path, parts) = halves(case, " ");
+    match read(rt, path) {
+        Ok(graph) => tell(rt.alloc(), graph, parts, line),
+        Err(error) => line.show(&error),
+    }
 }
 
-fn part_told(alloc: Global, id: &str, parts: &str) -> Result<String, AllocError> {
+fn tell_part(id: &str, parts: &str, line: &mut Line) {
     let Some(count) = count_in(parts) else {
-        return String::from_str(alloc, "no parts");
+        return line.put("no parts");
     };
     match id.parse::<u64>() {
-        Ok(id) => format!(in alloc; "{}", part_of(id, count)),
-        Err(_) => String::from_str(alloc, "no id"),
+        Ok(id) => line.show(&part_of(id, count)),
+        Err(_) => line.put("no id"),
     }
 }
 
@@ -51,38 +49,38 @@ fn count_in(text: &str) -> Option<u32>
     }
 }
 
-fn told(alloc: Global, graph: Graph, parts: &str) -> Result<String, AllocError> {
-    let mut line = String::new(alloc);
-    tell(alloc, graph, parts, &mut line)?;
-    Ok(line)
-}
-
-fn tell(alloc: Global, graph: Graph, parts: &str, line: &mut String) -> Result<(), AllocError> {
+fn tell(alloc: Global, graph: Graph, parts: &str, line: &mut Line) {
     match count_in(parts.strip_prefix("in ").unwrap_or(parts)) {
         Some(count) => tell_parts(alloc, graph, count, line),
-        None if parts == "copied" => tell_copy(alloc, &graph, line),
-        None => line.push_str("no parts"),
+        None if parts == "copied" => tell_joined(graph.copy(alloc), line),
+        None => line.put("no parts"),
     }
 }
 
-fn tell_copy(alloc: Global, graph: &Graph, line: &mut String) -> Result<(), AllocError> {
-    let copy = graph.copy(alloc)?;
-    tell_vertices(copy.vertices(), line)
+fn tell_joined(graph: Result<Graph, AllocError>, line: &mut Line) {
+    match graph {
+        Ok(graph) => tell_vertices(graph.vertices(), line),
+        Err(_) => line.cut(),
+    }
 }
 
-fn tell_parts(alloc: Global, graph: Graph, count: u32, line: &mut String) -> Result<(), AllocError>
+fn tell_parts(alloc: Global, graph: Graph, count: u32, line: &mut Line)
     requires { 0 < count }
 {
-    let parts = split(alloc, graph, count)?;
-    tell_counts(&parts, line)?;
-    let joined = join(alloc, parts)?;
-    tell_vertices(joined.vertices(), line)
+    match split(alloc, graph, count) {
+        Ok(parts) => {
+            tell_counts(&parts, line);
+            tell_joined(join(alloc, parts), line);
+        }
+        Err(_) => line.cut(),
+    }
 }
 
 // Writes the number of vertices of each part.
-fn tell_counts(parts: &[Part], line: &mut String) -> Result<(), AllocError> {
+fn tell_counts(parts: &[Part], line: &mut Line) {
     for part in parts {
-        write!(line, "{} ", part.vertices.len())?;
+        line.show(&part.vertices.len());
+        line.put(" ");
     }
-    line.push_str("vertices, together ")
+    line.put("vertices, together ");
 }

@@ -7,6 +7,7 @@
 ghost use Rattle.std.specs.Prelude.{◌≡◌, IfOk, map};
 ghost use Rattle.graph.specs.Entry.{IsProper, entries_of};
 
+use conformance_cases::{Line, halves};
 use graph::{Graph, PrintFault, Vertex, print_values};
 use std::alloc::{AllocError, Global};
 use std::io::{self, ErrorKind, Write};
@@ -20,7 +21,7 @@ struct Device<'a> {
 
 impl Write for Device<'_> {
     fn write(&mut self, bytes: &[u8]) -> io::Result<usize> {
-        let (call, rest) = self.calls.split_once(' ').unwrap_or((self.calls, ""));
+        let (call, rest) = halves(self.calls, " ");
         self.calls = rest;
         let most = match call {
             "" => bytes.len(),
@@ -39,20 +40,19 @@ impl Write for Device<'_> {
 }
 
 /// Writes what a writer takes of the values of a text's graph.
-pub fn answer(alloc: Global, case: &str, line: &mut String) -> Result<(), AllocError> {
+pub fn answer(alloc: Global, case: &str, line: &mut Line) {
     let (calls, text) = case.split_once('|').unwrap_or(("", case));
     match Graph::read(alloc, text.trim_start()) {
-        Ok(graph) => print(alloc, calls.trim(), graph.vertices(), line),
-        Err(fault) => write!(line, "{fault}"),
+        Ok(graph) => {
+            if print(alloc, calls.trim(), graph.vertices(), line).is_err() {
+                line.cut();
+            }
+        }
+        Err(fault) => line.show(&fault),
     }
 }
 
-fn print(
-    alloc: Global,
-    calls: &str,
-    vertices: &[Vertex],
-    line: &mut String,
-) -> Result<(), AllocError>
+fn print(alloc: Global, calls: &str, vertices: &[Vertex], line: &mut Line) -> Result<(), AllocError>
     requires { IsProper (entries_of vertices.now) }
 {
     let values = values_of(alloc, vertices)?;
@@ -61,7 +61,8 @@ fn print(
         taken: Vec::new(alloc),
     };
     let outcome = print_values(alloc, &values, &mut device);
-    tell(&device.taken, outcome, line)
+    tell(&device.taken, outcome, line);
+    Ok(())
 }
 
 // Returns the vertices without their edges.
@@ -75,22 +76,11 @@ fn values_of(alloc: Global, vertices: &[Vertex]) -> Result<Vec<(u64, i64)>, Allo
         .collect(alloc)
 }
 
-fn tell(
-    taken: &[u8],
-    outcome: Result<(), PrintFault>,
-    line: &mut String,
-) -> Result<(), AllocError> {
-    tell_taken(str::from_utf8(taken).unwrap_or("no text"), line)?;
-    match outcome {
-        Ok(()) => Ok(()),
-        Err(fault) => write!(line, ", {fault}"),
+fn tell(taken: &[u8], outcome: Result<(), PrintFault>, line: &mut Line) {
+    line.put("\"");
+    line.put_lines(str::from_utf8(taken).unwrap_or("no text"), "↵");
+    line.put("\"");
+    if let Err(fault) = outcome {
+        line.add(", ", &fault);
     }
-}
-
-fn tell_taken(text: &str, line: &mut String) -> Result<(), AllocError> {
-    line.push('"')?;
-    for character in text.chars() {
-        line.push(if character == '\n' { '↵' } else { character })?;
-    }
-    line.push('"')
 }

@@ -6,37 +6,19 @@ ghost use Rattle.std.specs.List.{IsDistinct};
 ghost use Rattle.inbox.specs.Merging.{all_of, are_one};
 
 use super::{are_distinct, are_rising, ids_in, letters_in, tell_inboxes};
-use anyhow::Result;
-use conformance_cases::{CaseFiles, show_texts};
+use conformance_cases::{Line, halves};
 use inbox::{Inbox, Letter, merge_parts};
 use std::alloc::{AllocError, Global};
 use std::thread::Threads;
 
-/// Shows the cases of inboxes of parts.
-pub fn show(rt: &(impl CaseFiles + Print + AllocGlobal + Threads + Sync)) -> Result<()> {
-    show_texts(
-        rt,
-        "inbox/inboxes-by-part.txt",
-        |alloc, case| answer(rt, alloc, case),
-    )
-}
-
-fn answer(rt: &(impl Threads + Sync), alloc: Global, case: &str) -> Result<String, AllocError> {
-    let mut line = String::new(alloc);
-    tell(rt, alloc, case, &mut line)?;
-    Ok(line)
-}
-
-fn tell(
-    rt: &(impl Threads + Sync),
-    alloc: Global,
-    case: &str,
-    line: &mut String,
-) -> Result<(), AllocError> {
-    let (ids, letters) = case.split_once(';').unwrap_or((case, ""));
+/// Writes the inboxes of a case's parts.
+pub fn answer(rt: &(impl Threads + Sync), alloc: Global, case: &str, line: &mut Line) {
+    let (ids, letters) = halves(case, ";");
     let mut unread = false;
-    let ids = ids_by_part(alloc, ids, &mut unread)?;
-    deliver(rt, alloc, letters, ids.as_slice(), unread, line)
+    match ids_by_part(alloc, ids, &mut unread) {
+        Ok(ids) => deliver(rt, alloc, letters, ids.as_slice(), unread, line),
+        Err(_) => line.cut(),
+    }
 }
 
 fn deliver(
@@ -45,14 +27,13 @@ fn deliver(
     letters: &str,
     ids: &[Vec<u64>],
     unread_id: bool,
-    line: &mut String,
-) -> Result<(), AllocError> {
+    line: &mut Line,
+) {
     let mut unread = unread_id;
-    let lists = lists_of_letters(alloc, letters, &mut unread)?;
-    if unread {
-        line.push_str("no number")
-    } else {
-        tell_delivered(rt, alloc, lists.as_slice(), ids, line)
+    match lists_of_letters(alloc, letters, &mut unread) {
+        Ok(_) if unread => line.put("no number"),
+        Ok(lists) => tell_delivered(rt, alloc, lists.as_slice(), ids, line),
+        Err(_) => line.cut(),
     }
 }
 
@@ -81,12 +62,12 @@ fn tell_delivered(
     alloc: Global,
     lists: &[Vec<Letter>],
     ids: &[Vec<u64>],
-    line: &mut String,
-) -> Result<(), AllocError> {
-    if are_in_order(alloc, lists, ids)? {
-        tell_merged(rt, alloc, lists, ids, line)
-    } else {
-        line.push_str("not in order")
+    line: &mut Line,
+) {
+    match are_in_order(alloc, lists, ids) {
+        Ok(true) => tell_merged(rt, alloc, lists, ids, line),
+        Ok(false) => line.put("not in order"),
+        Err(_) => line.cut(),
     }
 }
 
@@ -95,14 +76,18 @@ fn tell_merged(
     alloc: Global,
     lists: &[Vec<Letter>],
     ids: &[Vec<u64>],
-    line: &mut String,
-) -> Result<(), AllocError>
+    line: &mut Line,
+)
     requires ids { IsDistinct nat_eq (all_of ids.now) }
     requires letters { IsDistinct are_one (all_of lists.now) }
 {
-    let (parts, dropped) = merge_parts(rt, alloc, lists, ids)?;
-    tell_parts(&parts, line)?;
-    write!(line, "dropped {dropped}")
+    match merge_parts(rt, alloc, lists, ids) {
+        Ok((parts, dropped)) => {
+            tell_parts(&parts, line);
+            line.add("dropped ", &dropped);
+        }
+        Err(_) => line.cut(),
+    }
 }
 
 fn are_in_order(alloc: Global, lists: &[Vec<Letter>], ids: &[Vec<u64>]) -> Result<bool, AllocError>
@@ -130,10 +115,11 @@ fn are_distinct_together(alloc: Global, lists: &[Vec<Letter>]) -> Result<bool, A
 }
 
 // Writes the inboxes of each part, with a bar between parts.
-fn tell_parts(parts: &[Vec<Inbox>], line: &mut String) -> Result<(), AllocError> {
-    for (place, inboxes) in parts.iter().enumerate() {
-        line.push_str(if place == 0 { "" } else { "| " })?;
-        tell_inboxes(inboxes, line)?;
+fn tell_parts(parts: &[Vec<Inbox>], line: &mut Line) {
+    for index in 0..parts.len() {
+        if index > 0 {
+            line.put("| ");
+        }
+        tell_inboxes(&parts[index], line);
     }
-    Ok(())
 }

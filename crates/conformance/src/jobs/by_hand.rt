@@ -5,25 +5,23 @@ ghost use Rattle.superstep.specs.Tasks.{IsRow, stamps_of};
 ghost use Rattle.superstep.specs.inside.Running.{slice_of};
 
 use crate::checkpoints::tell_state;
+use compute::run_task;
+use conformance_cases::Line;
 use interp::Scratch;
 use std::alloc::{AllocError, Global};
 use std::marker::Brand;
 use std::thread::Threads;
-use superstep::{
-    Done, Job, Origin, Slice, State, Task, barrier, first_state, run_task, slices, totals_of,
-};
+use superstep::{Done, Job, Origin, Slice, State, Task, barrier, first_state, slices, totals_of};
 
 /// Writes the state after the superstep.
-pub fn tell_first_superstep(
-    rt: &(impl Threads + Sync),
-    alloc: Global,
-    job: &Job,
-    line: &mut String,
-) -> Result<(), AllocError> {
-    let mut scratch = Scratch::new(alloc, job.verified())?;
-    let state = state_of_copies::<Brand>(rt, alloc, job, &mut scratch);
-    drop(scratch);
-    tell_state(alloc, &state?, line)
+pub fn tell_first_superstep(rt: &(impl Threads + Sync), alloc: Global, job: &Job, line: &mut Line) {
+    let Ok(mut scratch) = Scratch::new(alloc, job.verified()) else {
+        return line.cut();
+    };
+    match state_of_copies::<Brand>(rt, alloc, job, &mut scratch) {
+        Ok(state) => tell_state(alloc, &state, line),
+        Err(_) => line.cut(),
+    }
 }
 
 fn state_of_copies<J: Origin>(

@@ -1,12 +1,13 @@
 //! The instructions of i64 (Core 1.0, 4.3.2), by their functions and by their enums.
 
 use super::Given;
-use wasm_ast::{
-    Binary, Comparison, Division, Unary, Value, i64_add, i64_and, i64_clz, i64_ctz, i64_div_s,
-    i64_div_u, i64_eq, i64_ge_s, i64_ge_u, i64_gt_s, i64_gt_u, i64_le_s, i64_le_u, i64_lt_s,
-    i64_lt_u, i64_mul, i64_ne, i64_or, i64_popcnt, i64_rem_s, i64_rem_u, i64_rotl, i64_rotr,
-    i64_shl, i64_shr_s, i64_shr_u, i64_sub, i64_xor,
+use numeric_values::{
+    i64_add, i64_and, i64_binary, i64_clz, i64_comparison_holds, i64_ctz, i64_div_s, i64_div_u,
+    i64_division, i64_division_traps, i64_eq, i64_ge_s, i64_ge_u, i64_gt_s, i64_gt_u, i64_le_s,
+    i64_le_u, i64_lt_s, i64_lt_u, i64_mul, i64_ne, i64_or, i64_popcnt, i64_rem_s, i64_rem_u,
+    i64_rotl, i64_rotr, i64_shl, i64_shr_s, i64_shr_u, i64_sub, i64_unary, i64_xor,
 };
+use wasm_ast::{Binary, Comparison, Division, Unary, Value};
 
 pub fn unary_given(unary: Unary, x: u64) -> Given {
     let by_function = match unary {
@@ -16,7 +17,7 @@ pub fn unary_given(unary: Unary, x: u64) -> Given {
     };
     Given {
         by_function: Value::I64(by_function),
-        by_enum: Value::I64(unary.apply_i64(x)),
+        by_enum: Value::I64(i64_unary(unary, x)),
     }
 }
 
@@ -36,7 +37,7 @@ pub fn binary_given(binary: Binary, x: u64, y: u64) -> Given {
     };
     Given {
         by_function: Value::I64(by_function),
-        by_enum: Value::I64(binary.apply_i64(x, y)),
+        by_enum: Value::I64(i64_binary(binary, x, y)),
     }
 }
 
@@ -55,13 +56,13 @@ pub fn comparison_given(comparison: Comparison, x: u64, y: u64) -> Given {
     };
     Given {
         by_function: Value::I32(by_function),
-        by_enum: Value::I32(u32::from(comparison.holds_i64(x, y))),
+        by_enum: Value::I32(u32::from(i64_comparison_holds(comparison, x, y))),
     }
 }
 
 /// Returns the value, or none if the operands trap.
 pub fn division_given(division: Division, x: u64, y: u64) -> Option<Given> {
-    if division.traps_i64(x, y) {
+    if i64_division_traps(division, x, y) {
         return None;
     }
     let by_function = match division {
@@ -72,6 +73,6 @@ pub fn division_given(division: Division, x: u64, y: u64) -> Option<Given> {
     };
     Some(Given {
         by_function: Value::I64(by_function),
-        by_enum: Value::I64(division.apply_i64(x, y)),
+        by_enum: Value::I64(i64_division(division, x, y)),
     })
 }

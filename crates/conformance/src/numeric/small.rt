@@ -1,12 +1,13 @@
 //! The instructions of i32 (Core 1.0, 4.3.2), by their functions and by their enums.
 
 use super::Given;
-use wasm_ast::{
-    Binary, Comparison, Division, Unary, Value, i32_add, i32_and, i32_clz, i32_ctz, i32_div_s,
-    i32_div_u, i32_eq, i32_ge_s, i32_ge_u, i32_gt_s, i32_gt_u, i32_le_s, i32_le_u, i32_lt_s,
-    i32_lt_u, i32_mul, i32_ne, i32_or, i32_popcnt, i32_rem_s, i32_rem_u, i32_rotl, i32_rotr,
-    i32_shl, i32_shr_s, i32_shr_u, i32_sub, i32_xor,
+use numeric_values::{
+    i32_add, i32_and, i32_binary, i32_clz, i32_comparison_holds, i32_ctz, i32_div_s, i32_div_u,
+    i32_division, i32_division_traps, i32_eq, i32_ge_s, i32_ge_u, i32_gt_s, i32_gt_u, i32_le_s,
+    i32_le_u, i32_lt_s, i32_lt_u, i32_mul, i32_ne, i32_or, i32_popcnt, i32_rem_s, i32_rem_u,
+    i32_rotl, i32_rotr, i32_shl, i32_shr_s, i32_shr_u, i32_sub, i32_unary, i32_xor,
 };
+use wasm_ast::{Binary, Comparison, Division, Unary, Value};
 
 pub fn unary_given(unary: Unary, x: u32) -> Given {
     let by_function = match unary {
@@ -16,7 +17,7 @@ pub fn unary_given(unary: Unary, x: u32) -> Given {
     };
     Given {
         by_function: Value::I32(by_function),
-        by_enum: Value::I32(unary.apply_i32(x)),
+        by_enum: Value::I32(i32_unary(unary, x)),
     }
 }
 
@@ -36,7 +37,7 @@ pub fn binary_given(binary: Binary, x: u32, y: u32) -> Given {
     };
     Given {
         by_function: Value::I32(by_function),
-        by_enum: Value::I32(binary.apply_i32(x, y)),
+        by_enum: Value::I32(i32_binary(binary, x, y)),
     }
 }
 
@@ -55,13 +56,13 @@ pub fn comparison_given(comparison: Comparison, x: u32, y: u32) -> Given {
     };
     Given {
         by_function: Value::I32(by_function),
-        by_enum: Value::I32(u32::from(comparison.holds_i32(x, y))),
+        by_enum: Value::I32(u32::from(i32_comparison_holds(comparison, x, y))),
     }
 }
 
 /// Returns the value, or none if the operands trap.
 pub fn division_given(division: Division, x: u32, y: u32) -> Option<Given> {
-    if division.traps_i32(x, y) {
+    if i32_division_traps(division, x, y) {
         return None;
     }
     let by_function = match division {
@@ -72,6 +73,6 @@ pub fn division_given(division: Division, x: u32, y: u32) -> Option<Given> {
     };
     Some(Given {
         by_function: Value::I32(by_function),
-        by_enum: Value::I32(division.apply_i32(x, y)),
+        by_enum: Value::I32(i32_division(division, x, y)),
     })
 }

@@ -1,6 +1,7 @@
 //! The bytes of a memory (Core 1.0, 4.2.8 and 4.4.4).
 
-use wasm_ast::{Load, Store, Value, i32_wrap_i64};
+use numeric_values::i32_wrap_i64;
+use wasm_ast::{Load, Store, Value};
 
 /// How many bytes a page has (Core 1.0, 4.2.8).
 pub const PAGE_SIZE: usize = 65_536;

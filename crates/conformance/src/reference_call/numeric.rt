@@ -2,10 +2,12 @@
 
 use super::Stop;
 use super::operands::Operands;
-use wasm_ast::{
-    Binary, Comparison, Conversion, Division, Numeric, Unary, ValType, Value, i32_eqz,
-    i32_wrap_i64, i64_eqz, i64_extend_i32_s, i64_extend_i32_u,
+use numeric_values::{
+    i32_binary, i32_comparison_holds, i32_division, i32_division_traps, i32_eqz, i32_unary,
+    i32_wrap_i64, i64_binary, i64_comparison_holds, i64_division, i64_division_traps, i64_eqz,
+    i64_extend_i32_s, i64_extend_i32_u, i64_unary,
 };
+use wasm_ast::{Binary, Comparison, Conversion, Division, Numeric, Unary, ValType, Value};
 
 /// Pops the operands of a numeric instruction and returns its result. Divisions without one trap.
 pub fn value_of(op: Numeric, operands: &mut Operands) -> Value {
@@ -28,8 +30,8 @@ fn is_zero(val_type: ValType, operands: &mut Operands) -> Value {
 
 fn unary(val_type: ValType, op: Unary, operands: &mut Operands) -> Value {
     match val_type {
-        ValType::I32 => Value::I32(op.apply_i32(operands.pop_i32())),
-        ValType::I64 => Value::I64(op.apply_i64(operands.pop_i64())),
+        ValType::I32 => Value::I32(i32_unary(op, operands.pop_i32())),
+        ValType::I64 => Value::I64(i64_unary(op, operands.pop_i64())),
     }
 }
 
@@ -45,11 +47,11 @@ fn compared(val_type: ValType, op: Comparison, operands: &mut Operands) -> Value
     let holds = match val_type {
         ValType::I32 => {
             let second = operands.pop_i32();
-            op.holds_i32(operands.pop_i32(), second)
+            i32_comparison_holds(op, operands.pop_i32(), second)
         }
         ValType::I64 => {
             let second = operands.pop_i64();
-            op.holds_i64(operands.pop_i64(), second)
+            i64_comparison_holds(op, operands.pop_i64(), second)
         }
     };
     Value::I32(u32::from(holds))
@@ -59,11 +61,11 @@ fn combined(val_type: ValType, op: Binary, operands: &mut Operands) -> Value {
     match val_type {
         ValType::I32 => {
             let second = operands.pop_i32();
-            Value::I32(op.apply_i32(operands.pop_i32(), second))
+            Value::I32(i32_binary(op, operands.pop_i32(), second))
         }
         ValType::I64 => {
             let second = operands.pop_i64();
-            Value::I64(op.apply_i64(operands.pop_i64(), second))
+            Value::I64(i64_binary(op, operands.pop_i64(), second))
         }
     }
 }
@@ -78,19 +80,19 @@ fn divided(val_type: ValType, op: Division, operands: &mut Operands) -> Value {
 fn divided_i32(op: Division, operands: &mut Operands) -> Value {
     let second = operands.pop_i32();
     let first = operands.pop_i32();
-    if op.traps_i32(first, second) {
+    if i32_division_traps(op, first, second) {
         operands.stop(Stop::Trap);
         return Value::I32(0);
     }
-    Value::I32(op.apply_i32(first, second))
+    Value::I32(i32_division(op, first, second))
 }
 
 fn divided_i64(op: Division, operands: &mut Operands) -> Value {
     let second = operands.pop_i64();
     let first = operands.pop_i64();
-    if op.traps_i64(first, second) {
+    if i64_division_traps(op, first, second) {
         operands.stop(Stop::Trap);
         return Value::I64(0);
     }
-    Value::I64(op.apply_i64(first, second))
+    Value::I64(i64_division(op, first, second))
 }

@@ -1,32 +1,31 @@
 //! Instructions that neither branch nor call (Core 1.0, 4.4.1 to 4.4.4).
 
-use super::Stop;
 use super::memory::{load, size, store};
 use super::numeric::value_of;
 use super::operands::Operands;
+use super::{Stop, Walk};
 use wasm_ast::{Load, Memory, MemoryArgument, Plain, Store, ValType, Value, Variable};
 
-/// Executes an instruction on the operands, the locals, the globals and the bytes of the memory.
-pub fn act_plain(
-    plain: Plain,
-    operands: &mut Operands,
-    locals: &mut [Value],
-    globals: &mut [Value],
-    bytes: &mut [u8],
-) {
-    match plain {
-        Plain::Nop => {}
-        Plain::Drop => {
-            operands.pop();
+impl Walk<'_, '_, '_> {
+    /// Executes an instruction on the operands, the locals, the globals and the bytes of the memory.
+    pub fn act(&mut self, plain: Plain) {
+        let operands = &mut self.operands;
+        match plain {
+            Plain::Nop => {}
+            Plain::Drop => {
+                operands.pop();
+            }
+            Plain::Select => act_select(operands),
+            Plain::Const(value) => operands.push(value),
+            Plain::Numeric(op) => {
+                let value = value_of(op, operands);
+                operands.push(value);
+            }
+            Plain::Variable(variable) => {
+                act_variable(variable, operands, &mut self.locals, &mut self.globals)
+            }
+            Plain::Memory(memory) => act_memory(memory, operands, &mut self.memory),
         }
-        Plain::Select => act_select(operands),
-        Plain::Const(value) => operands.push(value),
-        Plain::Numeric(op) => {
-            let value = value_of(op, operands);
-            operands.push(value);
-        }
-        Plain::Variable(variable) => act_variable(variable, operands, locals, globals),
-        Plain::Memory(memory) => act_memory(memory, operands, bytes),
     }
 }
 

@@ -1,18 +1,20 @@
 //! Results that come more than once.
 
 ghost use Rattle.std.specs.Prelude.{◌≡◌, false};
-ghost use Rattle.rollback.specs.Saving.{KeepsFor};
+ghost use Rattle.book.specs.Saving.{KeepsFor};
 
+use super::tell_trace;
+use book::{Answer, Book, Event, JobStatus, Report};
 use checkpoint::{Device, Keep, MemoryKeep};
-use conformance_cases::fault_told;
+use compute::run_task;
+use conformance_cases::{Line, tell_fault};
 use interp::Scratch;
-use plain_commands::trace_text;
-use rollback::{Answer, Book, Event, JobStatus, Outcome, Report, Step, StepAnswer, Trace};
+use rollback::{Outcome, Step, StepAnswer, Trace};
 use std::alloc::{AllocError, Global};
 use std::marker::Brand;
 use std::mem;
 use std::thread::Threads;
-use superstep::{Done, Job, Origin, Task, run_task};
+use superstep::{Done, Job, Origin, Task};
 
 // The tools to do tasks with, the answers so far, and the results that have not come yet.
 #[derive(Drop)]
@@ -38,8 +40,9 @@ pub fn doubled<R: Device + AllocGlobal + Threads + Sync>(
     alloc: Global,
     job: &Job,
     steps: &[Step],
-) -> Result<String, AllocError> {
-    doubled_as::<Brand, MemoryKeep, R>(rt, alloc, job, &mut MemoryKeep::new(alloc), steps)
+    line: &mut Line,
+) {
+    doubled_as::<Brand, MemoryKeep, R>(rt, alloc, job, &mut MemoryKeep::new(alloc), steps, line);
 }
 
 // Runs it for a job that a type names, whose Keep is not trusted.
@@ -49,13 +52,14 @@ fn doubled_as<J: Origin, K: Keep, R: Device + AllocGlobal + Threads + Sync>(
     job: &Job,
     keep: &mut K,
     steps: &[Step],
-) -> Result<String, AllocError>
+    line: &mut Line,
+)
     requires job { J.work ≡ job.now }
     requires honest { J.honest 1 ≡ false }
 {
     match Book::<J>::open(alloc, job) {
-        Ok(book) => doubled_in(rt, alloc, job, book, keep, steps),
-        Err(fault) => fault_told(alloc, fault),
+        Ok(book) => doubled_in(rt, alloc, job, book, keep, steps, line),
+        Err(fault) => tell_fault(fault, line),
     }
 }
 
@@ -67,14 +71,15 @@ fn doubled_in<J: Origin, K: Keep, R: Device + AllocGlobal + Threads + Sync>(
     mut book: Book<J>,
     keep: &mut K,
     steps: &[Step],
-) -> Result<String, AllocError>
+    line: &mut Line,
+)
     requires job { J.work ≡ job.now }
     requires keep { KeepsFor J.work J.honest (K.honest keep.old) (K.saved keep.old)
         (K.may_load keep.old) book }
 {
     match answers_of(rt, alloc, job, &mut book, keep, steps) {
-        Ok(answers) => told(alloc, answers, book),
-        Err(error) => Err(error),
+        Ok(answers) => tell_ended(alloc, answers, book, line),
+        Err(_) => line.cut(),
     }
 }
 
@@ -259,20 +264,13 @@ fn tell<J: Origin, K: Keep, R: Device + AllocGlobal + Threads + Sync>(
     Ok(())
 }
 
-fn told<J: Origin>(
-    alloc: Global,
-    answers: Vec<StepAnswer>,
-    book: Book<J>,
-) -> Result<String, AllocError> {
+fn tell_ended<J: Origin>(alloc: Global, answers: Vec<StepAnswer>, book: Book<J>, line: &mut Line) {
     match ended(book) {
         Ok(report) => {
-            let trace = Trace {
-                answers,
-                outcome: Outcome::Ended(report),
-            };
-            trace_text(alloc, &trace, true)
+            let outcome = Outcome::Ended(report);
+            tell_trace(alloc, &Trace { answers, outcome }, line);
         }
-        Err(word) => String::from_str(alloc, word),
+        Err(word) => line.put(word),
     }
 }
 

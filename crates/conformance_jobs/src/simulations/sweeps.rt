@@ -1,6 +1,7 @@
 //! Many lists of steps of one job.
 
 use checkpoint::{Device, MemoryKeep};
+use conformance_cases::Line;
 use plain_run::one_machine;
 use rollback::{Outcome, Step, simulate};
 use std::alloc::{AllocError, Global};
@@ -52,32 +53,30 @@ impl Tally {
     }
 }
 
-/// Loses worker 0 or 1 before each of the steps; then the other works as long as it takes.
-pub fn losses<R: Device + AllocGlobal + Threads + Sync>(
+/// Loses worker 0 or 1 before each of the steps; then the other works as long as it takes. Writes how many of the lists end
+/// as the run on one machine.
+pub fn tell_losses<R: Device + AllocGlobal + Threads + Sync>(
     rt: &R,
     alloc: Global,
     job: &Job,
     steps: &[Step],
-) -> Result<String, AllocError> {
-    let plain = one_machine(rt, alloc, job)?;
-    losses_beside(rt, alloc, job, steps, &plain)
-}
-
-fn losses_beside<R: Device + AllocGlobal + Threads + Sync>(
-    rt: &R,
-    alloc: Global,
-    job: &Job,
-    steps: &[Step],
-    plain: &JobEnd,
-) -> Result<String, AllocError> {
+    line: &mut Line,
+) {
+    let Ok(plain) = one_machine(rt, alloc, job) else {
+        return line.cut();
+    };
     let mut tally = Tally::new();
     for place in 0..steps.len() {
         for worker in 0..2 {
-            let lossy = lossy(alloc, &steps[..place], worker)?;
-            tally.count(way_of(rt, alloc, job, &lossy, plain));
+            match lossy(alloc, &steps[..place], worker) {
+                Ok(lossy) => tally.count(way_of(rt, alloc, job, &lossy, &plain)),
+                Err(_) => line.cut(),
+            }
         }
     }
-    format!(in alloc; "{} of {} end alike", tally.alike, tally.lists)
+    line.show(&tally.alike);
+    line.add(" of ", &tally.lists);
+    line.put(" end alike");
 }
 
 // Makes a list of the steps, a loss of the worker, and works of the other to the end.
@@ -131,39 +130,36 @@ fn have_finished(ended: &JobEnd) -> bool {
     matches!(ended.how, EndReason::Finished)
 }
 
-/// Draws lists of steps by a fixed seed.
-pub fn drawn<R: Device + AllocGlobal + Threads + Sync>(
+/// Draws lists of steps by a fixed seed. Writes where they lead.
+pub fn tell_drawn<R: Device + AllocGlobal + Threads + Sync>(
     rt: &R,
     alloc: Global,
     job: &Job,
     lists: u32,
-) -> Result<String, AllocError> {
-    let plain = one_machine(rt, alloc, job)?;
-    drawn_beside(rt, alloc, job, lists, &plain)
-}
-
-fn drawn_beside<R: Device + AllocGlobal + Threads + Sync>(
-    rt: &R,
-    alloc: Global,
-    job: &Job,
-    lists: u32,
-    plain: &JobEnd,
-) -> Result<String, AllocError> {
+    line: &mut Line,
+) {
+    let Ok(plain) = one_machine(rt, alloc, job) else {
+        return line.cut();
+    };
     let mut draw = Draw { state: 1 };
     let mut tally = Tally::new();
     for _ in 0..lists {
-        let steps = draw.steps(alloc)?;
-        tally.count(way_of(rt, alloc, job, &steps, plain));
+        match draw.steps(alloc) {
+            Ok(steps) => tally.count(way_of(rt, alloc, job, &steps, &plain)),
+            Err(_) => line.cut(),
+        }
     }
-    told(alloc, tally)
+    tell(tally, line);
 }
 
-fn told(alloc: Global, tally: Tally) -> Result<String, AllocError> {
-    let open = words_if(tally.open, ", some are open");
-    let alike = words_if(tally.alike, ", some end alike");
-    let without = words_if(tally.without_workers, ", some lose all workers");
-    let (lists, others) = (tally.lists, tally.others);
-    format!(in alloc; "{lists} lists{open}{alike}{without}, {others} end otherwise")
+fn tell(tally: Tally, line: &mut Line) {
+    line.show(&tally.lists);
+    line.put(" lists");
+    line.put(words_if(tally.open, ", some are open"));
+    line.put(words_if(tally.alike, ", some end alike"));
+    line.put(words_if(tally.without_workers, ", some lose all workers"));
+    line.add(", ", &tally.others);
+    line.put(" end otherwise");
 }
 
 fn words_if(count: u64, words: &'static str) -> &'static str {

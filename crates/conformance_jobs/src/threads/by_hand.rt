@@ -3,8 +3,9 @@
 ghost use Rattle.std.specs.Prelude.{◌≡◌, ◌<◌};
 ghost use Rattle.workers.specs.Coordinator.{staff};
 
+use book::{Book, Event, Report};
 use checkpoint::{Device, MemoryKeep};
-use rollback::{Book, Event, Report};
+use conformance_cases::Line;
 use std::alloc::Global;
 use std::marker::Brand;
 use std::sync::Wait;
@@ -55,7 +56,7 @@ pub fn led<R: Wait + Threads + Sync + Device + AllocGlobal>(
     rt: &R,
     alloc: Global,
     job: &Job,
-    words: &mut Vec<&'static str>,
+    words: &mut Line,
 ) -> Result<(), JobFault> {
     led_as::<Brand, R>(rt, alloc, job, words)
 }
@@ -65,7 +66,7 @@ fn led_as<J: Origin, R: Wait + Threads + Sync + Device + AllocGlobal>(
     rt: &R,
     alloc: Global,
     job: &Job,
-    words: &mut Vec<&'static str>,
+    words: &mut Line,
 ) -> Result<(), JobFault>
     requires { J.work ≡ job.now }
 {
@@ -100,7 +101,7 @@ fn offer<J: Origin, R: Wait>(
     rt: &R,
     coordinator: &mut Coordinator<J>,
     book: &mut Book<J>,
-    words: &mut Vec<&'static str>,
+    words: &mut Line,
 )
     requires { 0 < staff coordinator.old }
 {
@@ -114,7 +115,7 @@ fn offer<J: Origin, R: Wait>(
 }
 
 // Takes the task, and reports that there was no memory for it.
-fn fail<J: Origin, R: Wait>(rt: &R, pass: &mut WorkerPass<J>, words: &mut Vec<&'static str>) {
+fn fail<J: Origin, R: Wait>(rt: &R, pass: &mut WorkerPass<J>, words: &mut Line) {
     note(words, order_word(pass, rt));
     let failed = Event::Failed(pass.worker(), Place::Call);
     match pass.hand_in(rt, failed) {
@@ -140,6 +141,7 @@ fn event_word<J: Origin>(taken: Result<Message<J>, JobFault>) -> &'static str {
     }
 }
 
-fn note(words: &mut Vec<&'static str>, word: &'static str) {
-    let _ = words.push(word);
+fn note(words: &mut Line, word: &str) {
+    words.gap(", ");
+    words.put(word);
 }

@@ -6,7 +6,7 @@ use Rattle.channels.specs.declared.order.Order.{Order}
 use Rattle.control.specs.declared.answer.Answer.{Answer}
 use Rattle.events.specs.declared.event.Event.{Event}
 use Rattle.events.specs.declared.event.Event.TheVariants.{Done, Failed, Joined, Lost, Tick}
-use Rattle.rollback.specs.declared.report.Report.{Report}
+use Rattle.book.specs.declared.report.Report.{Report}
 use Rattle.control.specs.Machine.{Machine}
 use Rattle.event_loop.specs.JobAnswers.{RanFrom}
 use Rattle.event_loop.specs.Joining.{is_counted, losses}

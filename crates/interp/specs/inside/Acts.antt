@@ -2,7 +2,7 @@
 use Rattle.std.specs.Prelude.{◌≡◌, ℕ, List}
 use Rattle.wasm_ast.specs.declared.types.Value.{Value}
 use Rattle.verified.specs.Host.{Host}
-use Rattle.interp.specs.Configuration.{State, Effect, Gives}
+use Rattle.semantics.specs.Configuration.{State, Effect, Gives}
 
 abbrev pub state : List Value → List Value → List ℕ → Host → ℕ → State
 state locals globals bytes host count =

@@ -14,15 +14,16 @@ use Rattle.verified.specs.Profile.{HasCompute}
 use Rattle.verified.specs.declared.call.CallInput.{CallInput}
 use Rattle.verified.specs.declared.call.CallOutcome.{CallOutcome}
 use Rattle.verified.specs.Host.{Leaves}
-use Rattle.interp.specs.Configuration.{State}
-use Rattle.interp.specs.Machine.{Machine, defined, functions_of, run}
+use Rattle.semantics.specs.Configuration.{State}
+use Rattle.semantics.specs.Machine.{Machine, defined, functions_of, run}
 use Rattle.interp.specs.inside.Place.{Place, Room, Standing, at}
 use Rattle.interp.specs.Room.{most_entries, most_locals}
-use Rattle.interp.specs.Start.{Begins, Starts, constant_value, initial_globals, initial_memory}
+use Rattle.semantics.specs.Start.{Begins, Starts, constant_value, initial_globals, initial_memory}
 use Rattle.interp.specs.inside.Cells.{cell_of, zero_cells}
 use Rattle.interp.specs.inside.Given.{HasGiven}
 use Rattle.interp.specs.inside.Fits.{AreFit}
-use Rattle.interp.specs.inside.Kept.{count_kept, laid_over, marked_before, marks, masked}
+use Rattle.interp.specs.inside.Kept.{count_kept, laid_over, marked_before, masked}
+use Rattle.semantics.specs.inside.Touched.{marks}
 use Rattle.interp.specs.inside.Walk.{EndsWithin, Finishes, Follows, IsWithinRoom}
 
 -- the module defines the function with this number

@@ -24,11 +24,11 @@ use Rattle.wasm_ast.specs.Widths.{load_width, store_type, store_width}
 use Rattle.verified.specs.declared.imports.HostCall.{HostCall}
 use Rattle.verified.specs.declared.imports.HostCall.TheVariants as call
 use Rattle.verified.specs.Memory.{number_of}
-use Rattle.interp.specs.Configuration.{State, Effect, Gives, Traps, Misses, tick}
-use Rattle.interp.specs.Effects.{value, effect, load_effect, numeric_effect, popped, store_effect, variable_effect, memory_effect, call_effect}
+use Rattle.semantics.specs.Configuration.{State, Effect, Gives, Traps, Misses, tick}
+use Rattle.semantics.specs.Effects.{value, effect, load_effect, numeric_effect, popped, store_effect, variable_effect, memory_effect, call_effect}
 use Rattle.interp.specs.inside.Kept.{kept_read, kept_write, masked}
 use Rattle.interp.specs.inside.Place.{Place}
-use Rattle.interp.specs.Machine.{Machine, Running, Done, Trapped, Stuck, ControlEntry, Label, Frame, Callee, host, defined, functions_of, after_effect, arm, enter, has_result, leave, next_units, take_branch, taking}
+use Rattle.semantics.specs.Machine.{Machine, Running, Done, Trapped, Stuck, ControlEntry, Label, Frame, Callee, host, defined, functions_of, after_effect, arm, enter, has_result, leave, next_units, take_branch, taking}
 
 -- ---- values as cells
 

@@ -2,8 +2,8 @@
 use Rattle.std.specs.Prelude.{◌^◌, ◌<◌, List, [], ◌∷◌}
 use Rattle.wasm_ast.specs.declared.types.Value.{Value}
 use Rattle.wasm_ast.specs.declared.types.Value.TheVariants.{I32, I64}
-use Rattle.interp.specs.Configuration.{State}
-use Rattle.interp.specs.Machine.{Machine, Running, Done, Trapped, Stuck, ControlEntry, Label, Frame}
+use Rattle.semantics.specs.Configuration.{State}
+use Rattle.semantics.specs.Machine.{Machine, Running, Done, Trapped, Stuck, ControlEntry, Label, Frame}
 
 abbrev pub IsFit : Value → Type 0
 IsFit (I32 n) = n < 2 ^ 32

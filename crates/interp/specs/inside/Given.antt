@@ -3,7 +3,7 @@ use Rattle.std.specs.Prelude.{ℕ, ◌+◌, ◌≤◌, length, Bool, true, false
 use Rattle.verified.specs.declared.imports.HostCall.{HostCall}
 use Rattle.verified.specs.declared.imports.HostCall.TheVariants as call
 use Rattle.verified.specs.Host.{Host}
-use Rattle.interp.specs.Machine.{Machine, Running, Done, Trapped, Stuck}
+use Rattle.semantics.specs.Machine.{Machine, Running, Done, Trapped, Stuck}
 
 abbrev pub given : Host → ℕ
 given h = length h.sends + length h.contributions

@@ -14,14 +14,15 @@ use Rattle.wasm_ast.specs.declared.plain.Variable.TheVariants as variable
 use Rattle.wasm_ast.specs.declared.plain.Plain.{Plain}
 use Rattle.wasm_ast.specs.declared.plain.Plain.TheVariants as plain
 use Rattle.wasm_ast.specs.Code.{Code}
-use Rattle.wasm_ast.specs.Numeric.{bits_of, division_traps}
+use Rattle.wasm_ast.specs.Numeric.{bits_of}
+use Rattle.numeric_values.specs.Operations.{division_traps}
 use Rattle.wasm_ast.specs.Widths.{load_width, store_width}
 use Rattle.verified.specs.declared.call.TheConstants.{AGGREGATORS}
 use Rattle.verified.specs.declared.imports.HostCall.{HostCall}
 use Rattle.verified.specs.declared.imports.HostCall.TheVariants as call
 use Rattle.verified.specs.Memory.{number_of}
-use Rattle.interp.specs.Configuration.{State}
-use Rattle.interp.specs.Machine.{Machine, Running, Done, Trapped, Stuck, ControlEntry, Label, Frame}
+use Rattle.semantics.specs.Configuration.{State}
+use Rattle.semantics.specs.Machine.{Machine, Running, Done, Trapped, Stuck, ControlEntry, Label, Frame}
 use Rattle.interp.specs.inside.Cells.{narrowed}
 use Rattle.interp.specs.inside.Kept.{is_kept}
 use Rattle.interp.specs.inside.Place.{Standing, state_of}

@@ -7,7 +7,7 @@ use Rattle.wasm_ast.specs.Code.{Code}
 use Rattle.wasm_ast.specs.Code as code
 use Rattle.verified.specs.View.{code_of}
 use Rattle.verified.specs.declared.imports.HostCall.{HostCall}
-use Rattle.interp.specs.Machine as machine
+use Rattle.semantics.specs.Machine as machine
 use Rattle.interp.specs.inside.Kept.{count_kept}
 use Rattle.interp.specs.inside.Place.{Room, Standing, no_host}
 use Rattle.interp.specs.inside.Renewed.{Renewed}

@@ -7,9 +7,9 @@ use Rattle.wasm_ast.specs.contracts.types.Value as value_type
 use Rattle.wasm_ast.specs.Code.{Code, coded_code}
 use Rattle.wasm_ast.specs.Limits.{max_locals}
 use Rattle.verified.specs.Host.{Host}
-use Rattle.interp.specs.Configuration.{State}
-use Rattle.interp.specs.Heights.{beneath, held}
-use Rattle.interp.specs.Machine.{Machine, Running, ControlEntry, Label, Frame}
+use Rattle.semantics.specs.Configuration.{State}
+use Rattle.semantics.specs.Heights.{beneath, held}
+use Rattle.semantics.specs.Machine.{Machine, Running, ControlEntry, Label, Frame}
 
 -- a configuration that runs
 pub record Place : Type 0 where

@@ -17,9 +17,9 @@ use Rattle.verified.specs.View.{then_code}
 use Rattle.verified.specs.Weights.{host_units}
 use Rattle.verified.specs.Host.{Host}
 use Rattle.verified.specs.declared.imports.HostCall.{HostCall}
-use Rattle.interp.specs.Configuration.{State}
-use Rattle.interp.specs.Heights.{beneath, operands}
-use Rattle.interp.specs.Machine.{ControlEntry, run}
+use Rattle.semantics.specs.Configuration.{State}
+use Rattle.semantics.specs.Heights.{beneath, operands}
+use Rattle.semantics.specs.Machine.{ControlEntry, run}
 use Rattle.interp.specs.declared.plain.Acted.{Acted}
 use Rattle.interp.specs.inside.Acts.{ActsOnHost, state}
 use Rattle.interp.specs.inside.Cells.{cell_call, in_width, narrowed}

@@ -10,14 +10,14 @@ use Rattle.wasm_ast.specs.Code as code
 use Rattle.verified.specs.View.{code_of}
 use Rattle.interp.specs.declared.walk.Turn.{Turn}
 use Rattle.interp.specs.declared.walk.Turn.TheVariants as turn
-use Rattle.interp.specs.Configuration.{State}
+use Rattle.semantics.specs.Configuration.{State}
 use Rattle.wasm_ast.specs.Limits.{max_locals}
-use Rattle.interp.specs.Heights.{entries, locals, operands}
-use Rattle.interp.specs.Machine.{Machine, Running, Done, ControlEntry, Label, arm, arrive, back, enter, functions_of, jump, next_units, run, taking}
+use Rattle.semantics.specs.Heights.{entries, locals, operands}
+use Rattle.semantics.specs.Machine.{Machine, Running, Done, ControlEntry, Label, arm, arrive, back, enter, functions_of, jump, next_units, run, taking}
 use Rattle.interp.specs.inside.Cells.{cell_next, cell_take_call, celled, cells_place, cells_state, seen}
 use Rattle.interp.specs.inside.Given.{HasGiven}
 use Rattle.interp.specs.inside.Fits.{MachineFits}
-use Rattle.interp.specs.inside.Kept.{AreMarked, Touches, marks}
+use Rattle.semantics.specs.inside.Touched.{AreMarked, Touches, marks}
 use Rattle.interp.specs.inside.Place.{Place, Room, Standing, at, running, state_of}
 
 -- The machine is at a loop with this body, and a step further it is at the body's first instruction, in a label of the

@@ -2,9 +2,10 @@
 
 ghost use Rattle.std.specs.Prelude.{◌≡◌, Some, length, replicate, IfOk, IsSome};
 ghost use Rattle.verified.specs.Memory.{memory_bytes};
-ghost use Rattle.interp.specs.Start.{constant_value, constant_plain, initial_globals};
+ghost use Rattle.semantics.specs.Start.{constant_value, constant_plain, initial_globals};
 ghost use Rattle.interp.specs.inside.Begun.{AreInitial, cells_laid_in, cell_memory_laid, cell_segment_laid};
-ghost use Rattle.interp.specs.inside.Kept.{count_kept, marks, masked};
+ghost use Rattle.interp.specs.inside.Kept.{count_kept, masked};
+ghost use Rattle.semantics.specs.inside.Touched.{marks};
 
 use crate::cell::of_value;
 use crate::globals::Globals;

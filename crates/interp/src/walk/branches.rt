@@ -4,7 +4,7 @@ ghost use Rattle.std.specs.Prelude.{◌≡◌, reverse, true, vec_capacity};
 ghost use Rattle.wasm_ast.specs.declared.plain.Branch.TheVariants as branches;
 ghost use Rattle.wasm_ast.specs.Code.{end};
 ghost use Rattle.verified.specs.View.{code_of};
-ghost use Rattle.interp.specs.Machine.{label_of};
+ghost use Rattle.semantics.specs.Machine.{label_of};
 ghost use Rattle.interp.specs.inside.Cells.{cell_branch};
 ghost use Rattle.interp.specs.inside.Going.{goes_on, has_labels};
 ghost use Rattle.interp.specs.inside.Meaning.{AreNested, floor_of, entries_round};

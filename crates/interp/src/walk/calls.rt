@@ -4,7 +4,7 @@ ghost use Rattle.std.specs.Prelude.{◌≡◌, ◌+◌, ◌≤◌, None, Some, l
 ghost use Rattle.wasm_ast.specs.Limits.{IsWithinLimits, max_locals, parameters_of};
 ghost use Rattle.verified.specs.Bodies.{bodies_of};
 ghost use Rattle.verified.specs.View.{code_of};
-ghost use Rattle.interp.specs.Machine.{enter};
+ghost use Rattle.semantics.specs.Machine.{enter};
 ghost use Rattle.interp.specs.inside.Cells.{celled, in_width, of_any_width};
 ghost use Rattle.interp.specs.inside.Going.{goes_on};
 ghost use Rattle.interp.specs.inside.Meaning.{AreImports};

@@ -3,7 +3,7 @@
 ghost use Rattle.std.specs.Prelude.{◌≡◌, option_map, true};
 ghost use Rattle.wasm_ast.specs.declared.types.Value.TheVariants.{I64};
 ghost use Rattle.verified.specs.View.{code_of};
-ghost use Rattle.interp.specs.Machine.{arrive, leave};
+ghost use Rattle.semantics.specs.Machine.{arrive, leave};
 ghost use Rattle.interp.specs.inside.Going.{goes_on, is_going};
 ghost use Rattle.interp.specs.inside.Meaning.{keeps_of, target_of};
 ghost use Rattle.interp.specs.inside.Place.{HasEntryRoom, HasOperandRoom, state_of};

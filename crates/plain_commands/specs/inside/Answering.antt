@@ -8,7 +8,7 @@ use Rattle.job_state.specs.declared.fault.JobFault.TheVariants as job_fault
 use Rattle.sources.specs.declared.fault.CommandFault.{CommandFault}
 use Rattle.sources.specs.declared.fault.CommandFault.TheVariants as command
 use Rattle.call_lines.specs.OutputLines.{line, outcome_lines}
-use Rattle.interp.specs.Call.{IsOutcome}
+use Rattle.semantics.specs.Call.{IsOutcome}
 use Rattle.sources.specs.Refusal.{fault_text, status_of}
 use Rattle.plain_commands.specs.Outputs.{HasPrinted}
 

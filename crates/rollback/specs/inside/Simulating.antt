@@ -1,5 +1,5 @@
--- What simulating looks at, and what a step leaves of the counts.
-use Rattle.std.specs.Prelude.{◌≡◌, ℕ, Bool, List, map, Option, Some, None, option_map, replicate}
+-- What simulating looks at.
+use Rattle.std.specs.Prelude.{◌≡◌, ℕ, Bool, List, map, Option, None, option_map, replicate}
 use Rattle.superstep.specs.Job.{Work}
 use Rattle.job_state.specs.Stamps.{TaskStamp}
 use Rattle.control.specs.declared.control.Out.{Out}
@@ -8,7 +8,6 @@ use Rattle.rollback.specs.declared.simulation.StepAnswer.{StepAnswer}
 use Rattle.rollback.specs.declared.simulation.TaskRunner.{TaskRunner}
 use Rattle.control.specs.Stamps.{task_out}
 use Rattle.control.specs.Machine.{Machine}
-use Rattle.rollback.specs.Saving.{IsMadeAt}
 use Rattle.rollback.specs.Simulation.{RanOver, Sim}
 
 -- the tasks that are held, in numbers
@@ -23,11 +22,6 @@ pub record IsRunnerOf (work : Work) (runner : TaskRunner) : Type 0 where
   pub job : work ≡ runner.job.now
   pub fits : runner.scratch ≡ runner.job.now.«module»
 
--- no more was missed, and the job did not begin again
-pub record HasSameCounts (before after : Machine) : Type 0 where
-  pub missed : after.missed ≡ before.missed
-  pub restarts : after.restarts ≡ before.restarts
-
 -- the model, where none of this many workers holds a task
 abbrev pub with_none_held : ℕ → Machine → Sim
 with_none_held workers m = record { machine = m; held = replicate workers None }
@@ -36,7 +30,3 @@ with_none_held workers m = record { machine = m; held = replicate workers None }
 pub record AreAnswersTo {K : Type 0} (over : Machine → Machine → K → K → Type 0) (work : Work) (honest : ℕ → Bool) (steps : List Step) (before after : Machine) (keep keep' : K) (answers : List StepAnswer) : Type 0 where
   pub held : List (Option Out)
   pub ran : RanOver over work honest steps (with_none_held work.settings.workers before) keep answers (record { machine = after; held = held }) keep'
-
--- if it may load nothing else, it loads a state that fits there
-abbrev pub LoadsMade : Work → (List ℕ → Type 0) → Machine → Type 0
-LoadsMade work may_load m = (s : ℕ) → m.saved ≡ Some s → (bytes : List ℕ) → may_load bytes → IsMadeAt work s bytes

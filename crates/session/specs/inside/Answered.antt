@@ -5,7 +5,7 @@ use Rattle.superstep.specs.Ending.{IsEndOf}
 use Rattle.session_lines.specs.declared.run_state.RunState.{RunState}
 use Rattle.session_lines.specs.declared.run_state.RunState.TheVariants as state
 use Rattle.session.specs.declared.held_job.HeldJob.{HeldJob}
-use Rattle.rollback.specs.declared.report.Report.{Report}
+use Rattle.book.specs.declared.report.Report.{Report}
 use Rattle.session.specs.Held.{IsSound}
 use Rattle.session.specs.Maps.{put}
 use Rattle.session_lines.specs.Replies.{job_line, memory_line, not_ended_line, values_text}

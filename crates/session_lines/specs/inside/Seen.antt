@@ -9,7 +9,7 @@ use Rattle.session_lines.specs.declared.run_state.RunState.{RunState}
 use Rattle.session_lines.specs.declared.run_state.RunState.TheVariants as state
 use Rattle.session_lines.specs.declared.reply.Reply.{Reply}
 use Rattle.session_lines.specs.declared.reply.Reply.TheVariants as reply
-use Rattle.rollback.specs.declared.report.Report.{Report}
+use Rattle.book.specs.declared.report.Report.{Report}
 use Rattle.session_lines.specs.Commands.{Asked, add_module, add_graph, add_job, run, status, values, drop, quit, unknown}
 use Rattle.session_lines.specs.Replies.{bye_line, drop_line, failed_line, file_line, memory_line, module_line, not_ended_line, not_waiting_line, run_line, taken_line, unknown_line, usage_line}
 

@@ -39,6 +39,10 @@ unfoldable pub closed_at : State → Option State
 closed_at (closes ∷ ts, types) = Some (ts, types)
 closed_at _ = None
 
+-- the closing parenthesis, after which this is whole
+abbrev pub closed_as : {A : Type 0} → A → Reads A
+closed_as whole s = closed_at s >>= λ e. Some (whole, e)
+
 -- the keyword after the first parenthesis
 abbrev pub opening : List Tok → Option Keyword
 opening (opens ∷ key k ∷ ts) = Some k

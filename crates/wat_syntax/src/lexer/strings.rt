@@ -87,11 +87,10 @@ fn two_digits(text: &[u8]) -> Option<(Part, &[u8])>
     ensures ends { IfSome result (λ x. IsLeft text.now x.1.now) }
 {
     match text {
-        [high, low, rest @ ..] => {
-            let high = digit(*high)?;
-            let low = digit(*low)?;
-            Some((Part::Byte(high * 16 + low), rest))
-        }
+        [high, low, rest @ ..] => match (digit(*high), digit(*low)) {
+            (Some(high), Some(low)) => Some((Part::Byte(high * 16 + low), rest)),
+            _ => None,
+        },
         _ => None,
     }
 }

@@ -247,14 +247,14 @@ pub fn folded(parser: &mut Parser<'_>, room: Room, instrs: &mut Vec<Instr>) -> R
 fn folded_keyword(parser: &mut Parser<'_>) -> Result<Keyword, Failure>
     ensures shrinks { Fewer parser.old parser.new result }
 {
-    match parser.rest {
-        [Token::Open, Token::Key(keyword), rest @ ..] => {
+    let [Token::Open, inside @ ..] = parser.rest else {
+        return Err(parser.unexpected());
+    };
+    parser.rest = inside;
+    match inside {
+        [Token::Key(keyword), rest @ ..] => {
             parser.rest = rest;
             Ok(*keyword)
-        }
-        [Token::Open, rest @ ..] => {
-            parser.rest = rest;
-            Err(parser.unexpected())
         }
         _ => Err(parser.unexpected()),
     }
@@ -271,15 +271,10 @@ fn unfolded(
     ensures shrinks { NoMore parser.old parser.new result }
 {
     match keyword {
-        Keyword::Block => {
+        Keyword::Block | Keyword::Loop => {
             let (name, given) = header(parser, room)?;
             let body = inner(parser, room, name)?;
-            Ok(Instr::Block(given, body))
-        }
-        Keyword::Loop => {
-            let (name, given) = header(parser, room)?;
-            let body = inner(parser, room, name)?;
-            Ok(Instr::Loop(given, body))
+            Ok(block_of(keyword, given, body))
         }
         Keyword::If => folded_choice(parser, room, instrs),
         _ => {
@@ -287,6 +282,14 @@ fn unfolded(
             operands(parser, room, instrs)?;
             Ok(instr)
         }
+    }
+}
+
+// Returns the loop with this body, or the block where the keyword is not that of loops.
+fn block_of(keyword: Keyword, given: BlockType, body: Body) -> Instr {
+    match keyword {
+        Keyword::Loop => Instr::Loop(given, body),
+        _ => Instr::Block(given, body),
     }
 }
 
@@ -358,6 +361,5 @@ fn arm(parser: &mut Parser<'_>, room: Room, name: Option<u32>) -> Result<Body, F
 {
     parser.enter();
     let body = inner(parser, room, name)?;
-    parser.close()?;
-    Ok(body)
+    parser.closed(body)
 }

@@ -1,5 +1,6 @@
 //! A map from each type to the first type that is equal to it.
 
+use crate::fault::Failure;
 use std::alloc::{AllocError, Global};
 use std::collections::HashMap;
 use wasm_ast::{FuncType, ValType};
@@ -29,7 +30,7 @@ impl EqualTypes {
 
     /// Returns the index of the first type that is equal to this one. Where there is none, it adds this type with the
     /// index `number`.
-    pub fn first(&mut self, alloc: Global, t: &FuncType, number: u32) -> Result<u32, AllocError> {
+    pub fn first(&mut self, alloc: Global, t: &FuncType, number: u32) -> Result<u32, Failure> {
         let mut parts = Vec::new(alloc);
         add_type(&mut parts, t)?;
         if let Some(first) = self.firsts.get(parts.as_slice()) {
@@ -40,7 +41,7 @@ impl EqualTypes {
     }
 
     /// Adds types with indices from 0.
-    pub fn add(&mut self, alloc: Global, types: &[FuncType]) -> Result<(), AllocError> {
+    pub fn add(&mut self, alloc: Global, types: &[FuncType]) -> Result<(), Failure> {
         let mut number = 0u32;
         for t in types {
             let _first = self.first(alloc, t, number)?;

@@ -134,8 +134,7 @@ fn import_description(parser: &mut Parser<'_>) -> Result<ImportDescription, Fail
     let keyword = parser.opened()?;
     let _name = parser.name();
     let description = imported(parser, keyword)?;
-    parser.close()?;
-    Ok(description)
+    parser.closed(description)
 }
 
 // Reads the description of an import, after its keyword and its name.
@@ -180,8 +179,7 @@ fn export_description(parser: &mut Parser<'_>) -> Result<ExportDescription, Fail
 {
     let keyword = parser.opened()?;
     let description = exported(parser, keyword)?;
-    parser.close()?;
-    Ok(description)
+    parser.closed(description)
 }
 
 // Reads the description of an export, after its keyword.
@@ -244,10 +242,12 @@ fn inline_export(
 ) -> Result<(), Failure>
     ensures shrinks { Fewer parser.old parser.new result }
 {
-    match (parser.opening(), description) {
-        (Some(Keyword::Export), Some(description)) => named_export(parser, draft, description),
-        (Some(Keyword::Export), None) => Err(parser.fault(FaultKind::OverLimit)),
-        _ => Err(parser.fault(FaultKind::Unsupported)),
+    let Some(Keyword::Export) = parser.opening() else {
+        return Err(parser.fault(FaultKind::Unsupported));
+    };
+    match description {
+        Some(description) => named_export(parser, draft, description),
+        None => Err(parser.fault(FaultKind::OverLimit)),
     }
 }
 
@@ -348,8 +348,7 @@ fn named_local(
 {
     let parameters = parser.parameter_count(type_number)?;
     let number = parameters.saturating_add(locals.len());
-    parser.locals.declare(name, number, left)?;
-    parser.one_type(locals)
+    parser.named_type(name, number, left, locals)
 }
 
 #[tactic(auto, unfolding(crate::specs::inside::ReadingModule::defined_at))]
@@ -443,8 +442,7 @@ fn parenthesized_offset(parser: &mut Parser<'_>) -> Result<Body, Failure>
 {
     parser.enter();
     let body = sequence(parser, INNER_ROOM)?;
-    parser.close()?;
-    Ok(body)
+    parser.closed(body)
 }
 
 // Reads an index of this kind, which is 0 where none is given.

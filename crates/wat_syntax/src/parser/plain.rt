@@ -171,8 +171,8 @@ impl<'a> Parser<'a> {
     fn branch_table(&mut self) -> Result<Instr, Failure>
         ensures { GoesOn self.old self.new result (GivesAny branch_table_at) }
     {
-        let mut labels = Vec::new(self.alloc);
         let mut last = self.index(Kind::Label)?;
+        let mut labels = Vec::new(self.alloc);
         'each: while self.is_index() {
             let next = self.index(Kind::Label)?;
             labels.push(last)?;

@@ -2,7 +2,7 @@
 
 ghost use Rattle.std.specs.Prelude.{◌≡◌, ◌≤◌, [], Bool, Some, None, length};
 ghost use Rattle.wat_syntax.specs.inside.Parsing.{Advances, Passes, Shows, Gives};
-ghost use Rattle.wat_syntax.specs.inside.Reading.{State, closed_at, funcref_at, inside, name_at, number_at, number_first, open_first, opened_at, opening, text_at, type_first, unnamed_at};
+ghost use Rattle.wat_syntax.specs.inside.Reading.{State, closed_as, closed_at, funcref_at, inside, name_at, number_at, number_first, open_first, opened_at, opening, text_at, type_first, unnamed_at};
 ghost use Rattle.wat_syntax.specs.inside.Tokens.{toks_of};
 
 use crate::fault::{Failure, FaultKind};
@@ -101,6 +101,14 @@ impl<'a> Parser<'a> {
             }
             _ => Err(self.unexpected()),
         }
+    }
+
+    /// Reads a closing parenthesis, and returns `whole`, which it ends.
+    pub fn closed<T: Drop>(&mut self, whole: T) -> Result<T, Failure>
+        ensures { Advances self.old self.new result (Gives (closed_as whole)) }
+    {
+        self.close()?;
+        Ok(whole)
     }
 
     /// Returns the keyword after the parenthesis that comes next, where both do. It reads nothing.

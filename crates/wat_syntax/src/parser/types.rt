@@ -9,9 +9,12 @@ use crate::fault::{Failure, FaultKind};
 use crate::keyword::Keyword;
 use crate::lexer::Token;
 use crate::parser::items::{Item, repeated};
-use crate::parser::names::Kind;
+use crate::parser::names::{Kind, Names};
 use crate::parser::tokens::Parser;
-use wasm_ast::{BlockType, FuncType, GlobalType, Limits, Mutability, Sequence, ValType};
+use std::alloc::Global;
+use wasm_ast::{
+    BlockType, FuncType, GlobalType, Limits, Mutability, Sequence, ValType, parameter_count,
+};
 
 /// The use of parameter names.
 #[derive(Clone, Copy)]
@@ -120,8 +123,7 @@ impl<'a> Parser<'a> {
         }
         self.enter();
         let t = self.val_type()?;
-        self.close()?;
-        Ok(Some(t))
+        self.closed(Some(t))
     }
 
     /// Reads limits (Core 1.0, 6.4.4).
@@ -158,8 +160,7 @@ impl<'a> Parser<'a> {
     {
         self.enter();
         let value = self.val_type()?;
-        self.close()?;
-        Ok(GlobalType {
+        self.closed(GlobalType {
             mutability: Mutability::Variable,
             value,
         })
@@ -192,8 +193,8 @@ impl<'a> Parser<'a> {
         ensures { GoesOn self.old self.new result (GivesAny signature_at) }
     {
         let mut parameters = Vec::new(self.alloc);
-        let mut results = Vec::new(self.alloc);
         repeated(&Group::Parameters(names), self, &mut parameters)?;
+        let mut results = Vec::new(self.alloc);
         repeated(&Group::Results, self, &mut results)?;
         Ok(FuncType {
             parameters: Sequence::from(parameters),
@@ -214,14 +215,21 @@ impl<'a> Parser<'a> {
         let Group::Parameters(ParameterNames::Bound) = group else {
             return Err(Failure::Fault(FaultKind::Syntax, left));
         };
-        self.locals.declare(name, types.len(), left)?;
-        self.one_type(types)
+        self.named_type(name, types.len(), left, types)
     }
 
-    /// Reads the one type of a group with a name and the parenthesis that closes the group. Adds the type to `types`.
-    pub fn one_type(&mut self, types: &mut Vec<ValType>) -> Result<(), Failure>
+    /// Declares a parameter or a local with this name and index. Reads its type and the parenthesis that closes its
+    /// group, and adds the type to `types`. `left` tokens remain at the name.
+    pub fn named_type(
+        &mut self,
+        name: u32,
+        number: usize,
+        left: usize,
+        types: &mut Vec<ValType>,
+    ) -> Result<(), Failure>
         ensures { Fewer self.old self.new result }
     {
+        self.locals.declare(name, number, left)?;
         let t = self.val_type()?;
         types.push(t)?;
         self.close()
@@ -263,32 +271,29 @@ impl<'a> Parser<'a> {
         let number = self.index(Kind::Type)?;
         self.close()?;
         if self.is_signature() {
-            self.agree(names, number)?;
+            return self.agree(names, number);
         }
         Ok(number)
     }
 
-    // Reads the parameters and results after the index of a type. Those of another type are a `TypeUse` fault.
-    fn agree(&mut self, names: ParameterNames, number: u32) -> Result<(), Failure>
+    // Reads the parameters and results after the index of a type, and returns that index. Those of another type are a
+    // `TypeUse` fault.
+    fn agree(&mut self, names: ParameterNames, number: u32) -> Result<u32, Failure>
         ensures shrinks { NoMore self.old self.new result }
     {
         let fault = self.fault(FaultKind::TypeUse);
         let t = self.signature(names)?;
-        if self.is_numbered(number, &t)? {
-            Ok(())
-        } else {
-            Err(fault)
-        }
+        self.equal_number(number, &t, fault)
     }
 
-    // Reports whether the type with this index equals this type.
-    fn is_numbered(&mut self, number: u32, t: &FuncType) -> Result<bool, Failure>
+    // Returns the index where the type with this index equals this type, and this failure where it does not.
+    fn equal_number(&mut self, number: u32, t: &FuncType, fault: Failure) -> Result<u32, Failure>
         ensures { self.new.0 ≡ self.old.0 }
     {
         self.read_all_types()?;
         match self.types.get(number as usize) {
-            Some(named) => Ok(*named == *t),
-            None => Ok(false),
+            Some(named) if *named == *t => Ok(number),
+            _ => Err(fault),
         }
     }
 
@@ -297,9 +302,10 @@ impl<'a> Parser<'a> {
         ensures shrinks { self.new.0 ≡ self.old.0 }
     {
         let number = self.number_of_equal(&t)?;
-        if number as usize == self.types.len() {
-            self.types.push(t)?;
+        if (number as usize) < self.types.len() {
+            return Ok(number);
         }
+        self.types.push(t)?;
         Ok(number)
     }
 
@@ -311,8 +317,7 @@ impl<'a> Parser<'a> {
         let Ok(next) = u32::try_from(self.types.len()) else {
             return Err(self.fault(FaultKind::OverLimit));
         };
-        let number = self.equal_types.first(self.alloc, t, next)?;
-        Ok(number)
+        self.equal_types.first(self.alloc, t, next)
     }
 
     /// Returns how many parameters the type with this index has: 0 where the index names no type.
@@ -320,10 +325,7 @@ impl<'a> Parser<'a> {
         ensures { self.new.0 ≡ self.old.0 }
     {
         self.read_all_types()?;
-        match self.types.get(number as usize) {
-            Some(t) => Ok(t.parameters.as_slice().len()),
-            None => Ok(0),
-        }
+        Ok(parameter_count(self.types.as_slice(), number))
     }
 
     #[tactic(auto, unfolding(crate::specs::inside::Reading::func_at))]
@@ -348,8 +350,7 @@ impl<'a> Parser<'a> {
         self.open_func()?;
         self.forget_locals();
         let t = self.signature(ParameterNames::Bound)?;
-        self.close()?;
-        Ok(t)
+        self.closed(t)
     }
 
     // Reads all types that the module defines after this point, unless that was done before. Types that uses add get
@@ -360,11 +361,15 @@ impl<'a> Parser<'a> {
         if self.are_types_read {
             return Ok(());
         }
-        let mut reader = Parser::new(self.alloc, self.source, self.names, self.rest);
-        reader.later_types(&mut self.types)?;
+        add_defined_types(
+            self.alloc,
+            self.source,
+            self.names,
+            self.rest,
+            &mut self.types,
+        )?;
         self.are_types_read = true;
-        self.equal_types.add(self.alloc, self.types.as_slice())?;
-        Ok(())
+        self.equal_types.add(self.alloc, self.types.as_slice())
     }
 
     // Adds all types that are defined from here on.
@@ -403,4 +408,16 @@ impl<'a> Parser<'a> {
             _ => false,
         }
     }
+}
+
+// Adds all types that these tokens of a module define.
+fn add_defined_types(
+    alloc: Global,
+    source: &[u8],
+    names: &Names,
+    tokens: &[Token],
+    types: &mut Vec<FuncType>,
+) -> Result<(), Failure> {
+    let mut reader = Parser::new(alloc, source, names, tokens);
+    reader.later_types(types)
 }

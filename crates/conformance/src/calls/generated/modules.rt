@@ -70,7 +70,7 @@ impl Writer {
     fn segment(&mut self, head: &str) {
         self.part(head);
         for _ in 0..16 {
-            let byte = self.random.below(256);
+            let byte = u8::try_from(self.random.below(256)).unwrap_or(0);
             self.byte(byte);
         }
         self.word("\")");

@@ -1,6 +1,7 @@
 //! The text of code, written by stack discipline: the types of all operands are known at each place.
 
 use super::random::Random;
+use conformance_cases::Line;
 use std::alloc::{AllocError, Global};
 use wasm_ast::{BlockType, ValType};
 
@@ -30,7 +31,7 @@ pub struct Layer {
 #[derive(Drop)]
 pub struct Writer {
     pub random: Random,
-    text: String,
+    text: Line,
     /// The types of the operands, with those below the innermost sequence.
     pub operands: Vec<ValType>,
     /// The open sequences, the innermost last. The first is the function's body.
@@ -38,37 +39,28 @@ pub struct Writer {
     /// How many functions of the module are written before this one, which may call them.
     pub callees: u64,
     pub has_memory: bool,
-    /// Whether memory ran out, so that something is missing.
-    is_cut: bool,
 }
 
 impl Writer {
     pub fn new(alloc: Global, seed: u64) -> Writer {
         Writer {
             random: Random::new(seed),
-            text: String::new(alloc),
+            text: Line::new(alloc),
             operands: Vec::new(alloc),
             layers: Vec::new(alloc),
             callees: 0,
             has_memory: seed % 4 == 0,
-            is_cut: false,
         }
     }
 
     /// Returns the text, unless memory ran out.
     pub fn into_text(self) -> Result<String, AllocError> {
-        if self.is_cut {
-            Err(AllocError)
-        } else {
-            Ok(self.text)
-        }
+        self.text.finish()
     }
 
     /// Writes a word.
     pub fn part(&mut self, word: &str) {
-        if self.text.push_str(word).is_err() {
-            self.is_cut = true;
-        }
+        self.text.put(word);
     }
 
     /// Writes a word and a blank.
@@ -79,16 +71,15 @@ impl Writer {
 
     /// Writes a word, a number and a blank.
     pub fn numbered(&mut self, word: &str, number: u64) {
-        if write!(self.text, "{word} {number} ").is_err() {
-            self.is_cut = true;
-        }
+        self.word(word);
+        self.text.show(&number);
+        self.part(" ");
     }
 
     /// Writes a byte of a string.
-    pub fn byte(&mut self, byte: u64) {
-        if write!(self.text, "\\{byte:02x}").is_err() {
-            self.is_cut = true;
-        }
+    pub fn byte(&mut self, byte: u8) {
+        self.part("\\");
+        self.text.byte(byte);
     }
 
     /// Writes an instruction whose name begins with a type.
@@ -142,7 +133,7 @@ impl Writer {
         if let Some(val_type) = result_type
             && self.operands.push(val_type).is_err()
         {
-            self.is_cut = true;
+            self.text.cut();
         }
     }
 
@@ -155,7 +146,7 @@ impl Writer {
             result: result_type,
         };
         if self.layers.push(layer).is_err() {
-            self.is_cut = true;
+            self.text.cut();
         }
     }
 }

@@ -1,4 +1,4 @@
-use Rattle.rollback.proofs.Keeps.{keeps_same}
+use Rattle.book.proofs.Keeps.{keeps_same}
 use Rattle.std.proofs.Common.{map, true≢false, refl, sym, ◌∙◌}
 use Rattle.hub_ends.specs.Hub.{handed, received}
 use Rattle.hub_ends.proofs.Handing.{hub_same, hub_then}

@@ -1,5 +1,5 @@
 use Rattle.std.proofs.Common.{◌≡◌, map, true, vec_len}
-use Rattle.rollback.specs.Saving.{IsKeptStep, KeepsFor}
+use Rattle.book.specs.Saving.{IsKeptStep, KeepsFor}
 use Rattle.hub_ends.specs.Hub.{IsSameHub, handed, received}
 use Rattle.hub_ends.specs.Verdicts.{sends_on, told_on}
 use Rattle.event_loop.specs.inside.EventLoop.{IsOver}

@@ -1,6 +1,6 @@
 use Rattle.std.proofs.Common.{ap, sym, subst, ◌∙◌, refl, ◌++◌, ◌∷◌, []}
 use Rattle.control.specs.Machine.{Machine}
-use Rattle.rollback.specs.Saving.{IsKeptStep}
+use Rattle.book.specs.Saving.{IsKeptStep}
 use Rattle.hub_ends.specs.Hub.{handed, received}
 use Rattle.event_loop.specs.inside.Told.{StepsDue, due_by}
 use Rattle.event_loop.proofs.Moving.{due_bye, due_taken}

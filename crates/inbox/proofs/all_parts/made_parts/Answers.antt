@@ -1,4 +1,4 @@
-use Rattle.std.proofs.Common.{[], ◌∷◌, ◌++◌, take, ap, sym, ◌∙◌}
+use Rattle.std.proofs.Common.{[], ◌∷◌, ◌++◌, take, ap, sym, ◌∙◌, arith}
 use Rattle.rayon.proofs.ListFacts.{AllZip-append}
 use Rattle.std.proofs.lemmas.List.{take_all, take_more}
 use Rattle.inbox.specs.inside.Filing.{IsMadeFrom}
@@ -14,9 +14,16 @@ loop-part-preserved g c =
       count = rw same c.counted.ensures.count;
     } in
     let before = take c.loop-part.part-index parts in
-    let more = AllZip-append IsMadeFrom before (part ∷ []) c.loop-part.all.items (c.counted.result ∷ []) c.loop-part.invariant (one, tt) in
+    let more = AllZip-append IsMadeFrom before (part ∷ []) c.loop-part.all.items (c.counted.result ∷ []) c.loop-part.invariant.made (one, tt) in
     let grown = take_more parts c.loop-part.part-index part c.loop-part-test.true ∙ ap (λ part. before ++ part ∷ []) (sym c.part-item.is) in
-    rw (grown, c.in_ok-push.ensures.items) more
+    record {
+      made = rw (grown, c.push_reserved.ensures.items) more;
+      len = omega (arith, c.push_reserved.ensures.len, c.loop-part.invariant.len);
+      room = c.push_reserved.ensures.capacity ∙ c.loop-part.invariant.room;
+    }
+
+pub push_reserved-requires : goal.push_reserved-requires
+push_reserved-requires g c = omega (arith, c.loop-part.invariant.len, c.loop-part.invariant.room, c.loop-part-test.true)
 
 pub returns : goal.returns
-returns g c = rw (take_all c.loop-part.part-index c.args.parts.now c.loop-part-test.false) at c.loop-part.invariant
+returns g c = rw (take_all c.loop-part.part-index c.args.parts.now c.loop-part-test.false) at c.loop-part.invariant.made

@@ -1,4 +1,4 @@
-use Rattle.std.proofs.Common.{[], ◌∷◌, ◌++◌, take, ap, sym, ◌∙◌}
+use Rattle.std.proofs.Common.{[], ◌∷◌, ◌++◌, take, ap, sym, ◌∙◌, arith}
 use Rattle.rayon.proofs.ListFacts.{AllZip-append}
 use Rattle.std.proofs.lemmas.List.{take_all, take_more}
 use Rattle.inbox.specs.inside.Shares.{ArePutIn}
@@ -10,9 +10,16 @@ loop-ids-preserved g c =
     let parts = c.args.parts.now in
     let ids = c.ids-item.result in
     let before = take c.loop-ids.ids-index parts in
-    let more = AllZip-append (ArePutIn letters) before (ids ∷ []) c.loop-ids.all.items (c.in_ok-delivered.delivered ∷ []) c.loop-ids.invariant (c.in_ok-delivered.ensures, tt) in
+    let more = AllZip-append (ArePutIn letters) before (ids ∷ []) c.loop-ids.all.items (c.in_ok-delivered.delivered ∷ []) c.loop-ids.invariant.put (c.in_ok-delivered.ensures, tt) in
     let grown = take_more parts c.loop-ids.ids-index ids c.loop-ids-test.true ∙ ap (λ ids. before ++ ids ∷ []) (sym c.ids-item.is) in
-    rw (grown, c.in_ok-push.ensures.items) more
+    record {
+      put = rw (grown, c.push_reserved.ensures.items) more;
+      len = omega (arith, c.push_reserved.ensures.len, c.loop-ids.invariant.len);
+      room = c.push_reserved.ensures.capacity ∙ c.loop-ids.invariant.room;
+    }
+
+pub push_reserved-requires : goal.push_reserved-requires
+push_reserved-requires g c = omega (arith, c.loop-ids.invariant.len, c.loop-ids.invariant.room, c.loop-ids-test.true)
 
 pub returns : goal.returns
-returns g c = rw (take_all c.loop-ids.ids-index c.args.parts.now c.loop-ids-test.false) at c.loop-ids.invariant
+returns g c = rw (take_all c.loop-ids.ids-index c.args.parts.now c.loop-ids-test.false) at c.loop-ids.invariant.put

@@ -4,8 +4,8 @@ use Rattle.wasm_ast.specs.declared.module.Module.{Module}
 use Rattle.wasm_ast.specs.Limits.{IsWithinLimits}
 use Rattle.verified.specs.Modules.{IsTyped}
 use Rattle.verified.specs.Profile.{IsBounded}
-use Rattle.interp.specs.Bounded.{items_of}
-use Rattle.interp.specs.Call.{IsOutcome}
+use Rattle.semantics.specs.Bounded.{items_of}
+use Rattle.semantics.specs.Call.{IsOutcome}
 use Rattle.interp.specs.inside.Begun.{BeginsAt, IsDefinedAt}
 use Rattle.interp.specs.inside.Walk.{max_count}
 use Rattle.interp.proofs.Running.{begins_at, begins_with, bound_told, defined_at, ends_at, ends_sooner, fails_never, few_of_its_own}

@@ -1,6 +1,6 @@
 use Rattle.std.proofs.Common.{◌≡◌, ◌∙◌, refl, sym, arith, w64, to_z, of_z}
 use Rattle.std.proofs.lemmas.Int.{ints}
-use Rattle.interp.specs.Call.{shown}
+use Rattle.semantics.specs.Call.{shown}
 use Rattle.plain_run.specs.inside.OneMachine.{row_in}
 use Rattle.plain_run.proofs.PlainCalls.{called_calls, idle_calls}
 use Rattle.superstep.proofs.VertexCalls.{call_told, targets_small}

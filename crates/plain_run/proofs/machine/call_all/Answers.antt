@@ -1,6 +1,6 @@
 use Rattle.std.proofs.Common.{◌∙◌, ◌<◌, length, arith, refl}
 use Rattle.std.proofs.lemmas.List.{length-map}
-use Rattle.superstep.specs.inside.PartOutput.{left_in}
+use Rattle.superstep.specs.inside.Called.{left_in}
 use Rattle.plain_run.specs.inside.OneMachine.{row_in, rows_in}
 use Rattle.plain_run.proofs.PlainCalls.{all_called, called_next, entries_stay, none_called_yet, proper_in}
 use Rattle.plain_run.proofs.machine.call_all.Goals as goal

@@ -1,7 +1,7 @@
 use Rattle.std.proofs.Common.{◌≡◌}
-use Rattle.interp.specs.Call.{Outcome}
-use Rattle.interp.specs.Outcomes.{Given}
-use Rattle.superstep.specs.inside.PartOutput.{Tells, left_in}
+use Rattle.semantics.specs.Call.{Outcome}
+use Rattle.semantics.specs.Outcomes.{Given}
+use Rattle.superstep.specs.inside.Called.{Tells, left_in}
 use Rattle.plain_run.specs.inside.OneMachine.{entries_in, rows_in}
 use Rattle.plain_run.proofs.PlainCalls.{AreCalled}
 use Rattle.plain_run.proofs.machine.call_all.Given as goal

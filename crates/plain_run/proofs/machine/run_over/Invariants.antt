@@ -1,6 +1,6 @@
 use Rattle.std.proofs.Common.{◌≡◌, ◌≤◌, ◌-◌, map}
-use Rattle.interp.specs.Call.{Outcome}
-use Rattle.interp.specs.Outcomes.{AreOutcomes, Given}
+use Rattle.semantics.specs.Call.{Outcome}
+use Rattle.semantics.specs.Outcomes.{AreOutcomes, Given}
 use Rattle.plain_run.specs.inside.OneMachine.{IsAt, entries_in, entry_now}
 use Rattle.plain_run.proofs.machine.run_over.Given as goal
 

@@ -1,6 +1,6 @@
 use Rattle.std.proofs.Common.{◌≡◌, replicate, sym, subst, rules, ◌∙◌, ap, None}
 use Rattle.superstep.specs.Job.{Work}
-use Rattle.rollback.specs.Saving.{IsKeptStep}
+use Rattle.book.specs.Saving.{IsKeptStep}
 use Rattle.rollback.specs.Simulation.{RanOver, Sim}
 use Rattle.rollback.specs.inside.Simulating.{sim_of, stamps, with_none_held}
 use Rattle.rollback.proofs.Simulated

@@ -1,5 +1,5 @@
 use Rattle.std.proofs.Common.{refl, subst}
-use Rattle.interp.specs.Outcomes.{HasOneOutcome}
+use Rattle.semantics.specs.Outcomes.{HasOneOutcome}
 use Rattle.rollback.specs.Simulation.{CallsStayWithin}
 use Rattle.rollback.proofs.simulation.calls_stay_within.Goals as goal
 

@@ -1,6 +1,6 @@
 use Rattle.std.proofs.Common.{◌∙◌}
 use Rattle.std.proofs.lemmas.List.{length-set}
-use Rattle.rollback.specs.Saving.{IsKeptStep}
+use Rattle.book.specs.Saving.{IsKeptStep}
 use Rattle.rollback.specs.inside.Simulating.{sim_of}
 use Rattle.rollback.proofs.Simulated
 use Rattle.rollback.proofs.simulation.run.Goals as goal

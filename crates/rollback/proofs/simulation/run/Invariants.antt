@@ -1,5 +1,5 @@
 use Rattle.std.proofs.Common.{◌≡◌, length, take}
-use Rattle.rollback.specs.Saving.{IsKeptStep, KeepsFor}
+use Rattle.book.specs.Saving.{IsKeptStep, KeepsFor}
 use Rattle.rollback.specs.Simulation.{RanOver}
 use Rattle.rollback.specs.inside.Simulating.{IsRunnerOf, sim_of}
 use Rattle.rollback.proofs.simulation.run.Given as goal

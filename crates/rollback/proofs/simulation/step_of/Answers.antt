@@ -1,4 +1,5 @@
 use Rattle.rollback.specs.inside.Simulating.{sim_of}
+use Rattle.book.proofs.Counts.{kept_still}
 use Rattle.rollback.proofs.Simulated
 use Rattle.rollback.proofs.simulation.step_of.Goals as goal
 
@@ -13,7 +14,7 @@ returns-in-Tick-clause-step g c =
     rw c.in-Tick.is (Simulated.tick_told g.J.Origin.work g.J.Origin.honest (sim_of c.args.book.now c.args.held.now) c.tell-in-Tick.new.book t.0 c.tell-in-Tick.result t.2 t.1)
 
 pub returns-in-Take-clause-kept : goal.returns-in-Take-clause-kept
-returns-in-Take-clause-kept g c = Simulated.kept_still g.K.Keep.honest g.K.Keep.saved g.K.Keep.may_load g.K.Keep.faults g.J.Origin.work g.J.Origin.honest c.args.book.now c.take.new.book c.args.keep.now c.requires.keep c.take.ensures.saved c.take.ensures.counts
+returns-in-Take-clause-kept g c = kept_still g.K.Keep.honest g.K.Keep.saved g.K.Keep.may_load g.K.Keep.faults g.J.Origin.work g.J.Origin.honest c.args.book.now c.take.new.book c.args.keep.now c.requires.keep c.take.ensures.saved c.take.ensures.counts
 
 pub returns-in-Take-clause-runner : goal.returns-in-Take-clause-runner
 returns-in-Take-clause-runner g c = c.requires.runner
@@ -22,7 +23,7 @@ pub returns-in-Take-clause-step : goal.returns-in-Take-clause-step
 returns-in-Take-clause-step g c = rw c.in-Take.is c.take.ensures.step
 
 pub returns-in-Take-clause-keep : goal.returns-in-Take-clause-keep
-returns-in-Take-clause-keep g c = (Simulated.kept_still g.K.Keep.honest g.K.Keep.saved g.K.Keep.may_load g.K.Keep.faults g.J.Origin.work g.J.Origin.honest c.args.book.now c.take.new.book c.args.keep.now c.requires.keep c.take.ensures.saved c.take.ensures.counts).keeps
+returns-in-Take-clause-keep g c = (kept_still g.K.Keep.honest g.K.Keep.saved g.K.Keep.may_load g.K.Keep.faults g.J.Origin.work g.J.Origin.honest c.args.book.now c.take.new.book c.args.keep.now c.requires.keep c.take.ensures.saved c.take.ensures.counts).keeps
 
 pub returns-in-Work-clause-runner : goal.returns-in-Work-clause-runner
 returns-in-Work-clause-runner g c = c.work.ensures.runner

@@ -2,6 +2,7 @@ use Rattle.std.proofs.Common.{◌≡◌, sym, rules, refl, ◌∙◌, ap, Some, 
 use Rattle.std.specs.Prelude.{option_map}
 use Rattle.control.specs.Stamps.{task_out}
 use Rattle.rollback.specs.inside.Simulating.{sim_of, stamps}
+use Rattle.book.proofs.Counts.{kept_still}
 use Rattle.rollback.proofs.Simulated
 use Rattle.rollback.proofs.simulation.work.Goals as goal
 
@@ -58,15 +59,15 @@ returns-clause-step g c =
     Simulated.work_new j h w c.in-Some-next_task.task.part s c.next_task.new.self c.tell-2.new.book (stamps c.let_go.new.held) task _ d.0 d.1 t.0 c.tell-2.result none c.let_go.ensures.after (sym c.is_running.ensures ∙ c.if-not-is_running.false) (Simulated.near_held c.let_go.new.held w (search rules)) e.0 e.1 e.2 d.2 d.3 t.2 t.1
 
 pub returns-then-not-is_running-clause-kept : goal.returns-then-not-is_running-clause-kept
-returns-then-not-is_running-clause-kept g c = Simulated.kept_still g.K.Keep.honest g.K.Keep.saved g.K.Keep.may_load g.K.Keep.faults g.J.Origin.work g.J.Origin.honest c.args.book.now c.args.book.now c.args.keep.now c.requires.keep refl (record { missed = refl; restarts = refl })
+returns-then-not-is_running-clause-kept g c = kept_still g.K.Keep.honest g.K.Keep.saved g.K.Keep.may_load g.K.Keep.faults g.J.Origin.work g.J.Origin.honest c.args.book.now c.args.book.now c.args.keep.now c.requires.keep refl (record { missed = refl; restarts = refl })
 
 pub returns-then-worker-held-clause-kept : goal.returns-then-worker-held-clause-kept
-returns-then-worker-held-clause-kept g c = Simulated.kept_still g.K.Keep.honest g.K.Keep.saved g.K.Keep.may_load g.K.Keep.faults g.J.Origin.work g.J.Origin.honest c.args.book.now c.args.book.now c.args.keep.now c.requires.keep refl (record { missed = refl; restarts = refl })
+returns-then-worker-held-clause-kept g c = kept_still g.K.Keep.honest g.K.Keep.saved g.K.Keep.may_load g.K.Keep.faults g.J.Origin.work g.J.Origin.honest c.args.book.now c.args.book.now c.args.keep.now c.requires.keep refl (record { missed = refl; restarts = refl })
 
 pub returns-in_default-next_task-clause-kept : goal.returns-in_default-next_task-clause-kept
 returns-in_default-next_task-clause-kept g c =
     let e = c.in_default-next_task.ensures.none refl in
-    rw e.0 (Simulated.kept_still g.K.Keep.honest g.K.Keep.saved g.K.Keep.may_load g.K.Keep.faults g.J.Origin.work g.J.Origin.honest c.args.book.now c.args.book.now c.args.keep.now c.requires.keep refl (record { missed = refl; restarts = refl }))
+    rw e.0 (kept_still g.K.Keep.honest g.K.Keep.saved g.K.Keep.may_load g.K.Keep.faults g.J.Origin.work g.J.Origin.honest c.args.book.now c.args.book.now c.args.keep.now c.requires.keep refl (record { missed = refl; restarts = refl }))
 
 pub returns-clause-kept : goal.returns-clause-kept
 returns-clause-kept g c =

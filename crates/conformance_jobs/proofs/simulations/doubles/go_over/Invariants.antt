@@ -1,5 +1,5 @@
 use Rattle.std.proofs.Common.{◌≡◌}
-use Rattle.rollback.specs.Saving.{KeepsFor}
+use Rattle.book.specs.Saving.{KeepsFor}
 use Rattle.conformance_jobs.proofs.simulations.doubles.go_over.Given as goal
 
 abbrev pub invariant-loop-step : goal.invariant-loop-step

@@ -1,6 +1,6 @@
 use Rattle.std.proofs.Common.{ap}
 use Rattle.control.specs.Machine.{Machine}
-use Rattle.rollback.proofs.Keeps.{keeps_same}
+use Rattle.book.proofs.Keeps.{keeps_same}
 use Rattle.conformance_jobs.proofs.simulations.doubles.work.Goals as goal
 
 pub bring-requires-clause-keep : goal.bring-requires-clause-keep

@@ -1,5 +1,6 @@
 use Rattle.std.proofs.Common.{◌≡◌, ◌+◌, ◌≤◌, length, sym, ap, ◌∙◌, subst, arith}
-use Rattle.interp.specs.inside.Kept.{is_kept, laid_over, marks}
+use Rattle.interp.specs.inside.Kept.{is_kept, laid_over}
+use Rattle.semantics.specs.inside.Touched.{marks}
 use Rattle.interp.proofs.Kept.{all_marked, before_grows, joined, laid_both, length-kept, length-laid_over, length-marks, none_marked, past_bytes}
 use Rattle.interp.proofs.memory.Memory.+write_kept.Goals.{else-count-gt0-via-else-count-gt0, else-count-gt0-via-then-count-gt0+else-start-len, else-count-others-via-else-count-others, else-count-others-via-then-count-others+else-start-count}
 use Rattle.interp.proofs.memory.Memory.+write_kept.Goals as goal

@@ -1,5 +1,6 @@
 use Rattle.std.proofs.Common.{length, ap, ◌∙◌, arith}
-use Rattle.interp.specs.inside.Kept.{count_kept, marks, spread}
+use Rattle.interp.specs.inside.Kept.{count_kept, spread}
+use Rattle.semantics.specs.inside.Touched.{marks}
 use Rattle.interp.proofs.memory.Memory.copy_from.Goals as goal
 
 pub copy_from_slice-requires : goal.copy_from_slice-requires

@@ -1,6 +1,7 @@
 use Rattle.std.proofs.Common.{◌≡◌, Some, drop, length, take, true, sym, ap, ◌∙◌, arith}
-use Rattle.interp.specs.Memory.{number_of_bytes}
-use Rattle.interp.specs.inside.Kept.{is_kept, kept_read, marks, spread}
+use Rattle.semantics.specs.Memory.{number_of_bytes}
+use Rattle.interp.specs.inside.Kept.{is_kept, kept_read, spread}
+use Rattle.semantics.specs.inside.Touched.{marks}
 use Rattle.interp.proofs.Kept.{place_within, read_spread, spread_there}
 use Rattle.interp.proofs.memory.Memory.read_4.Goals as goal
 

@@ -2,7 +2,8 @@ use Rattle.std.proofs.Common.{◌≡◌, ◌+◌, ◌<◌, ◌++◌, ℕ, List, 
 use Rattle.std.specs.Vec.{with_items}
 use Rattle.std.proofs.lemmas.List.{with_items_is}
 use Rattle.wasm_ast.specs.declared.module.Module.{Module}
-use Rattle.interp.specs.inside.Kept.{count_kept, is_kept, kept_laid, laid_over, marked_before, marks, spread}
+use Rattle.interp.specs.inside.Kept.{count_kept, is_kept, kept_laid, laid_over, marked_before, spread}
+use Rattle.semantics.specs.inside.Touched.{marks}
 use Rattle.interp.proofs.Kept.{kept-laid_over, laid_spread, place_within, spread_there}
 use Rattle.interp.proofs.memory.Memory.write.Goals as goal
 

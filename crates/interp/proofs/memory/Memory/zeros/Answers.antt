@@ -1,6 +1,7 @@
 use Rattle.std.proofs.Common.{replicate, sym, ap, ◌∙◌, length}
 use Rattle.std.proofs.lemmas.List.{length-replicate}
-use Rattle.interp.specs.inside.Kept.{count_kept, marks, spread}
+use Rattle.interp.specs.inside.Kept.{count_kept, spread}
+use Rattle.semantics.specs.inside.Touched.{marks}
 use Rattle.interp.proofs.Kept.{all_reached, fresh_bytes, kept_fresh}
 use Rattle.interp.proofs.memory.Memory.zeros.Goals as goal
 

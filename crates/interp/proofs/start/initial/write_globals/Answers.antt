@@ -1,7 +1,7 @@
 use Rattle.std.proofs.Common.{◌≡◌, ◌+◌, ◌<◌, ◌∷◌, [], Some, drop, length, take, suc, arith, ap, ◌∙◌, sym, subst, rules}
 use Rattle.std.specs.Prelude.{get_or, slice_set}
 use Rattle.std.proofs.lemmas.List.{drop_more, length-set}
-use Rattle.interp.specs.Start.{constant_value}
+use Rattle.semantics.specs.Start.{constant_value}
 use Rattle.wasm_ast.specs.declared.types.Value.TheVariants.{I64}
 use Rattle.interp.proofs.Resetting.{SoFar, one_more, take-set_next}
 use Rattle.interp.proofs.start.initial.write_globals.Goals as goal

@@ -2,7 +2,7 @@ use Rattle.std.proofs.Common.{◌≤◌, Some, length, reverse, take, refl, ap, 
 use Rattle.std.proofs.lemmas.List.{length-map, length-reverse, length-take}
 use Rattle.wasm_ast.specs.declared.types.Value.TheVariants.{I64}
 use Rattle.verified.specs.View.{code_of}
-use Rattle.interp.specs.Machine.{enter}
+use Rattle.semantics.specs.Machine.{enter}
 use Rattle.interp.specs.inside.Cells.{celled}
 use Rattle.interp.specs.inside.Going.{goes_on}
 use Rattle.interp.specs.inside.Meaning.{standing_of}

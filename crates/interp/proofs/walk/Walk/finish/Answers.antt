@@ -1,7 +1,7 @@
 use Rattle.std.proofs.Common.{◌≡◌, ◌+◌, refl, sym, ◌∙◌, subst, arith}
 use Rattle.wasm_ast.specs.Code.{Code}
 use Rattle.verified.specs.View.{code_of}
-use Rattle.interp.specs.Machine.{Done, run}
+use Rattle.semantics.specs.Machine.{Done, run}
 use Rattle.interp.specs.inside.Cells.{cell_advance, in_width}
 use Rattle.interp.specs.inside.Place.{at, hosted, running, state_of}
 use Rattle.interp.specs.inside.Walk.{BeginsAgain, Follows, IsWithinRoom, SendsFrom, max_count}

@@ -1,6 +1,6 @@
 use Rattle.std.proofs.Common.{◌≡◌}
 use Rattle.verified.specs.View.{code_of}
-use Rattle.interp.specs.Machine.{Machine}
+use Rattle.semantics.specs.Machine.{Machine}
 use Rattle.interp.specs.inside.Place.{at, hosted}
 use Rattle.interp.specs.inside.Walk.{EndsWithin, Follows, left_of, max_count}
 use Rattle.interp.proofs.walk.Walk.finish.Given as goal

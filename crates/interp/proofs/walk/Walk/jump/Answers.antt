@@ -1,7 +1,7 @@
 use Rattle.std.proofs.Common.{reverse, sym, ap, ◌∙◌, subst}
 use Rattle.wasm_ast.specs.declared.plain.Branch.TheVariants as branch
 use Rattle.wasm_ast.specs.Code.{end}
-use Rattle.interp.specs.Machine.{first}
+use Rattle.semantics.specs.Machine.{first}
 use Rattle.interp.specs.inside.Cells.{cell_branch}
 use Rattle.interp.specs.inside.Going.{goes_on}
 use Rattle.interp.specs.inside.Meaning.{standing_of}

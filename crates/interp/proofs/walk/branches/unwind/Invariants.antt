@@ -1,7 +1,7 @@
 use Rattle.std.proofs.Common.{◌≡◌, ◌-◌, length, reverse, true, vec_capacity, Option}
 use Rattle.wasm_ast.specs.declared.types.Value.{Value}
-use Rattle.interp.specs.Machine.{jump}
-use Rattle.interp.specs.Configuration.{State}
+use Rattle.semantics.specs.Machine.{jump}
+use Rattle.semantics.specs.Configuration.{State}
 use Rattle.interp.specs.inside.Going.{has_labels}
 use Rattle.interp.specs.inside.Meaning.{entries_of, Ordered}
 use Rattle.interp.specs.inside.Split.{HasSpare}

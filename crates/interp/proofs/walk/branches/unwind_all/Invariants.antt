@@ -1,7 +1,7 @@
 use Rattle.std.proofs.Common.{◌≡◌, length, reverse, vec_capacity, Option}
 use Rattle.wasm_ast.specs.declared.types.Value.{Value}
-use Rattle.interp.specs.Machine.{back}
-use Rattle.interp.specs.Configuration.{State}
+use Rattle.semantics.specs.Machine.{back}
+use Rattle.semantics.specs.Configuration.{State}
 use Rattle.interp.specs.inside.Meaning.{entries_of, Ordered}
 use Rattle.interp.specs.inside.Split.{HasSpare}
 use Rattle.interp.proofs.walk.branches.unwind_all.Given as goal

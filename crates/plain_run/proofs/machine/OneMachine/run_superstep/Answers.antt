@@ -5,7 +5,7 @@ use Rattle.wasm_ast.specs.declared.module.Module.{Module}
 use Rattle.plain_run.specs.declared.machine.Held.{Held}
 use Rattle.plain_run.specs.declared.machine.OneMachine.{OneMachine}
 use Rattle.superstep.specs.declared.task.Shared.{Shared}
-use Rattle.superstep.specs.inside.PartOutput.{Tells, left_in}
+use Rattle.superstep.specs.inside.Called.{Tells, left_in}
 use Rattle.plain_run.specs.inside.OneMachine.{AreLeft, entries_in, lost_in, rows_in, with_messages}
 use Rattle.plain_run.proofs.Delivering.{Message}
 use Rattle.plain_run.proofs.PlainSteps.{as_many_rows, closed}

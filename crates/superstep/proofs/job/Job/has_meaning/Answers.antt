@@ -1,5 +1,5 @@
 use Rattle.std.proofs.Common.{subst}
-use Rattle.interp.specs.Outcomes.{HasOneOutcome}
+use Rattle.semantics.specs.Outcomes.{HasOneOutcome}
 use Rattle.superstep.proofs.job.Job.has_meaning.Goals as goal
 
 pub returns : goal.returns

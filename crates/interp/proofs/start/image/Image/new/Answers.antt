@@ -2,10 +2,10 @@ use Rattle.std.proofs.Common.{◌≡◌, List, Option, Some, IsSome, length, ref
 use Rattle.wasm_ast.specs.declared.types.Value.{Value}
 use Rattle.wasm_ast.specs.declared.module.Global.{Global}
 use Rattle.wasm_ast.specs.declared.module.Module.{Module}
-use Rattle.interp.specs.Start.{initial_globals}
+use Rattle.semantics.specs.Start.{initial_globals}
 use Rattle.interp.specs.inside.Begun.{AreInitial, cell_memory_laid}
 use Rattle.interp.proofs.Resetting.{memory_is, memory_there}
-use Rattle.interp.proofs.Starting.{has_initial}
+use Rattle.interp.proofs.Beginnings.{has_initial}
 use Rattle.interp.proofs.start.image.Image.new.Goals as goal
 
 pub initial_cells-requires : goal.initial_cells-requires

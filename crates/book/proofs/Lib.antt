@@ -1,0 +1,10 @@
+pub mod Beginning
+pub mod Counts
+pub mod Keeps
+pub mod Kept
+pub mod Opening
+pub mod Reports
+pub mod InSlots
+pub mod Slices
+pub mod Steps
+pub mod Taking

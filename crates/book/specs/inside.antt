@@ -1,0 +1,10 @@
+pub mod Book
+pub mod Counts
+pub mod DeviceResults
+pub mod EventStep
+pub mod JobData
+pub mod Loading
+pub mod Parts
+pub mod PartSlots
+pub mod Recovery
+pub mod Reporting

@@ -1,0 +1,3 @@
+pub mod DueRuns
+pub mod PartCalls
+pub mod PartLeft

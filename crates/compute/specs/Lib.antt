@@ -1,0 +1,2 @@
+-- for proofs only: definitions that follow the code
+pub mod inside

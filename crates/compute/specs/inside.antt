@@ -1,0 +1,2 @@
+pub mod PartOutput
+pub mod DueRuns

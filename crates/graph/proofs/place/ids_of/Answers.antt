@@ -1,6 +1,0 @@
-use Rattle.std.proofs.Common.{rules}
-use Rattle.graph.proofs.Vertices.{ids_entries}
-use Rattle.graph.proofs.place.ids_of.Goals as goal
-
-pub returns : goal.returns
-returns c = rw (ids_entries c.args.vertices.now) (search rules)

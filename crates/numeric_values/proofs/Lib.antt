@@ -1,0 +1,2 @@
+mod Rotations
+mod Divisions

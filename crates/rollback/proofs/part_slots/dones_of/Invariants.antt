@@ -1,9 +1,0 @@
-use Rattle.std.proofs.Common.{◌≡◌, ◌++◌, map}
-use Rattle.rollback.specs.declared.part_slots.PartSlot.TheVariants.{Back}
-use Rattle.rollback.proofs.part_slots.dones_of.Given as goal
-
-abbrev pub invariant-loop-slot : goal.invariant-loop-slot
-invariant-loop-slot g l = record {
-  back : map Back l.dones.items ≡ l.yielded;
-  left : l.yielded ++ l.slot-iterator.rest.items ≡ l.fn.part_slots.items;
-}

@@ -1,7 +1,0 @@
-use Rattle.std.proofs.Common.{◌≡◌, take}
-use Rattle.std.specs.List.{fold}
-use Rattle.superstep.specs.Folds.{give}
-use Rattle.superstep.proofs.part_output.give_all.Given as goal
-
-abbrev pub invariant-loop-given : goal.invariant-loop-given
-invariant-loop-given l = l.aggregators ≡ fold give l.fn.aggregators (take l.given-index l.contributions)

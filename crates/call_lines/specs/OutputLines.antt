@@ -1,5 +1,5 @@
 -- The lines of a call's outcome and of a job's end.
-use Rattle.std.specs.Prelude.{◌≡◌, ℕ, suc, ℤ, Bool, true, false, List, [], ◌∷◌, ◌++◌, codes, if◌then◌else◌, Result, String, string_bytes, IfOk}
+use Rattle.std.specs.Prelude.{ℕ, suc, ℤ, Bool, true, false, List, [], ◌∷◌, ◌++◌, codes, if◌then◌else◌, Result, String, string_bytes, IfOk}
 use Rattle.std.specs.List.{flat_map}
 use Rattle.std.specs.Fmt.{decimal, signed_decimal}
 use Rattle.verified.specs.declared.call.CallOutcome.{CallOutcome}
@@ -11,10 +11,6 @@ use Rattle.superstep.specs.declared.ending.JobEnd.{JobEnd}
 -- the bytes of the resulting text have this property
 abbrev pub IfText : {Z E : Type 0} → Result (String Z) E → (List ℕ → Type 0) → Type 0
 IfText answer P = IfOk answer (λ text. P (string_bytes text))
-
--- these bytes were appended to a text
-abbrev pub Gains : {Z : Type 0} → (old new : String Z) → List ℕ → Type 0
-Gains old new bytes = string_bytes new ≡ string_bytes old ++ bytes
 
 abbrev pub line : List ℕ → List ℕ
 line text = text ++ 10 ∷ []

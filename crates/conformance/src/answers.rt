@@ -16,7 +16,7 @@ use validate::ValidFault;
 use wasm_ast::Module;
 
 /// The files. A folder stands for all of its files that are not listed.
-const FILES: [&str; 35] = [
+const FILES: [&str; 33] = [
     // values, and copies of the syntax
     "wasm_ast/numeric.txt",
     "wasm_ast/widths.txt",
@@ -43,8 +43,6 @@ const FILES: [&str; 35] = [
     // compute calls
     "host_calls/host-functions.txt",
     "interp",
-    "interp/alike.txt",
-    "interp/generated.txt",
     // graphs, inboxes, and inputs of calls
     "graph/graphs.txt",
     "graph/graph-limits.txt",
@@ -122,8 +120,6 @@ impl<R: CaseFiles + Device + AllocGlobal> Answers for FileAnswers<'_, R> {
         let (rt, alloc) = (self.rt, self.rt.alloc());
         match self.file {
             "wasm_ast/copies.txt" => copies::answer(rt, case, line),
-            "interp/alike.txt" => calls::alike::answer(rt, case, line),
-            "interp/generated.txt" => calls::generated::answer(rt, case, line),
             "graph/parts.txt" => graphs::parts::answer(rt, case, line),
             "checkpoint/keeps.txt" => saves::answer(rt, case, line),
             file => answer(alloc, file, case, line),

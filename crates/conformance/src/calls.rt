@@ -1,19 +1,15 @@
-//! Compute calls of modules as text (Core 1.0, section 4). The reference call answers them over the valid module. If the
-//! module is in the bounded profile, `interp` answers them too.
+//! Compute calls of modules in the bounded profile, as text (Core 1.0, section 4). Each answer is that of the second of two calls,
+//! which uses the buffers of the first. The script `tests/calls` has the program and a reference answer the same cases.
 //!
-//! A case is `BODY | with FIELDS | input LINES | within UNITS`. The body and the fields replace the two `□` of
-//! `modules/calls.wat`; in `interp/calls-modules.txt` the body is the whole module. Without `input` the vertex is that of
-//! `interp/calls-vertex.txt`. Without `within` a call may take 1000 units.
+//! A case is `BODY | with FIELDS | input LINES`. The body and the fields replace the two `□` of `modules/calls.wat`; in
+//! `interp/calls-modules.txt` the body is the whole module. Without `input` the vertex is that of `interp/calls-vertex.txt`.
 
-pub mod alike;
-mod forms;
-pub mod generated;
+mod second_call;
 
-use crate::modules::valid_of;
+use crate::modules::verified_of;
 use anyhow::Result;
 use call_lines::Input;
 use conformance_cases::{Answers, CaseFiles, Line, halves, show_texts};
-use forms::tell_both;
 use sources::CommandFault;
 use std::alloc::{AllocError, Global};
 use verified::CallInput;
@@ -27,14 +23,11 @@ const FILES: [&str; 5] = [
     "interp/calls-host.txt",
 ];
 
-const ENOUGH: u128 = 1000;
-
 #[derive(Clone, Copy)]
 struct Case<'a> {
     body: &'a str,
     fields: &'a str,
     input: &'a str,
-    budget: u128,
 }
 
 impl<'a> Case<'a> {
@@ -43,7 +36,6 @@ impl<'a> Case<'a> {
             body: "",
             fields: "",
             input: vertex,
-            budget: ENOUGH,
         };
         for part in text.split(" | ") {
             case.add(part);
@@ -56,8 +48,6 @@ impl<'a> Case<'a> {
             self.fields = fields;
         } else if let Some(lines) = part.strip_prefix("input ") {
             self.input = lines;
-        } else if let Some(units) = part.strip_prefix("within ") {
-            self.budget = units.parse::<u128>().unwrap_or(0);
         } else {
             self.body = part;
         }
@@ -128,14 +118,14 @@ fn show_file(
 
 fn tell(alloc: Global, text: &str, case: Case, line: &mut Line) {
     match Input::read(alloc, case.input) {
-        Ok(input) => tell_call(alloc, text, &input.call_input(), case.budget, line),
+        Ok(input) => tell_call(alloc, text, &input.call_input(), line),
         Err(fault) => line.show(&CommandFault::Input(fault)),
     }
 }
 
-fn tell_call(alloc: Global, text: &str, input: &CallInput, budget: u128, line: &mut Line) {
-    match valid_of(alloc, text) {
-        Ok(valid) => tell_both(alloc, valid, input, budget, line),
+fn tell_call(alloc: Global, text: &str, input: &CallInput, line: &mut Line) {
+    match verified_of(alloc, text) {
+        Ok(verified) => second_call::tell(alloc, &verified, input, line),
         Err(fault) => line.show(&fault),
     }
 }

@@ -21,7 +21,6 @@ mod limits;
 mod modules;
 mod numeric;
 mod profile;
-mod reference_call;
 mod samples;
 mod saves;
 mod texts;

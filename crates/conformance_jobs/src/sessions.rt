@@ -9,93 +9,123 @@
 //! * `loses W:S`: jobs run in threads, and worker W is lost in superstep S;
 //! * `holds`: jobs run in threads, and part 0 is held until part 1 has begun.
 
+mod lent_files;
 mod lines;
 
-use crate::commands::lent_files::{LentFiles, spelled_bytes};
 use crate::threads::gates::{Plan, PlannedGate};
+use anyhow::Result;
 use checkpoint::Device;
-use conformance_cases::halves;
+use conformance_cases::{CaseFiles, Line, halves, is_case, named};
+use lent_files::{LentFiles, spelled_bytes};
 use lines::{Given, Limits, NO_LIMITS, Taken};
 use plain_session::serve_on_one_machine;
 use run_views::{Loss, LossGate};
 use session::ServeFault;
-use std::alloc::AllocError;
 use std::str;
 use std::sync::Wait;
 use std::thread::Threads;
 use threaded_session::serve_in_threads;
 use workers::{Gate, NoLoss};
 
-/// Writes the answer to a case.
-pub fn tell(
-    rt: &(impl Wait + Threads + Sync + Device + AllocGlobal),
+/// Prints a line for each case.
+pub fn show(
+    rt: &(impl CaseFiles + Device + Print + AllocGlobal + Threads + Wait + Sync),
+) -> Result<()> {
+    let mut files = LentFiles::of_cases(rt)?;
+    let text = rt.text_of("session/sessions.txt")?;
+    for line in text.lines() {
+        if is_case(line) {
+            show_case(rt, line, &mut files)?;
+        }
+    }
+    Ok(())
+}
+
+fn show_case(
+    rt: &(impl Device + Print + AllocGlobal + Threads + Wait + Sync),
+    line: &str,
+    files: &mut LentFiles,
+) -> Result<()> {
+    let (name, case) = named(line);
+    let mut answer = Line::new(rt.alloc());
+    tell(rt, case, files, &mut answer);
+    println!(rt; "{name}: {}", answer.finish()?)?;
+    Ok(())
+}
+
+// Writes the answer to a case.
+fn tell(
+    rt: &(impl Device + AllocGlobal + Threads + Wait + Sync),
     case: &str,
     files: &mut LentFiles,
-    text: &mut String,
-) -> Result<(), AllocError> {
+    line: &mut Line,
+) {
     let (way, lines) = halves(case, "; ");
-    let lines = spelled_bytes(rt.alloc(), way, lines)?;
-    tell_served(rt, way, &lines, files, text)
+    match spelled_bytes(rt.alloc(), way, lines) {
+        Ok(lines) => tell_served(rt, way, &lines, files, line),
+        Err(_) => line.cut(),
+    }
 }
 
 fn tell_served(
-    rt: &(impl Wait + Threads + Sync + Device + AllocGlobal),
+    rt: &(impl Device + AllocGlobal + Threads + Wait + Sync),
     way: &str,
     lines: &[u8],
     files: &mut LentFiles,
-    text: &mut String,
-) -> Result<(), AllocError> {
+    line: &mut Line,
+) {
     if let Some(loss) = way.strip_prefix("loses ") {
         let gate = LossGate::new(Loss::read(loss), false);
-        return tell_in_threads(rt, lines, files, &gate, text);
+        return tell_in_threads(rt, lines, files, &gate, line);
     }
     match way {
-        "threads" => tell_in_threads(rt, lines, files, &NoLoss, text),
-        "holds" => tell_held(rt, lines, files, text),
-        _ => tell_on_one_machine(rt, way, lines, files, text),
+        "threads" => tell_in_threads(rt, lines, files, &NoLoss, line),
+        "holds" => tell_held(rt, lines, files, line),
+        _ => tell_on_one_machine(rt, way, lines, files, line),
     }
 }
 
 fn tell_in_threads<G: Gate + Sync>(
-    rt: &(impl Wait + Threads + Sync + Device + AllocGlobal),
+    rt: &(impl Device + AllocGlobal + Threads + Wait + Sync),
     lines: &[u8],
     files: &mut LentFiles,
     gate: &G,
-    text: &mut String,
-) -> Result<(), AllocError> {
+    line: &mut Line,
+) {
     let alloc = rt.alloc();
     let mut reader = Given::new(lines, NO_LIMITS);
     let mut writer = Taken::new(alloc, NO_LIMITS);
     let served = serve_in_threads(rt, alloc, &mut reader, &mut writer, files, gate);
-    tell_replies("whole", &writer.bytes, served, text)
+    tell_replies("whole", &writer.bytes, served, line);
 }
 
 fn tell_held(
-    rt: &(impl Wait + Threads + Sync + Device + AllocGlobal),
+    rt: &(impl Device + AllocGlobal + Threads + Wait + Sync),
     lines: &[u8],
     files: &mut LentFiles,
-    text: &mut String,
-) -> Result<(), AllocError> {
+    line: &mut Line,
+) {
     let gate = PlannedGate::new(Plan::Holds);
-    tell_in_threads(rt, lines, files, &gate, text)?;
-    write!(text, " {}", gate.how_met())
+    tell_in_threads(rt, lines, files, &gate, line);
+    line.put(" ");
+    line.put(gate.how_met());
 }
 
 fn tell_on_one_machine(
-    rt: &(impl Threads + Sync + AllocGlobal),
+    rt: &(impl AllocGlobal + Threads + Sync),
     way: &str,
     lines: &[u8],
     files: &mut LentFiles,
-    text: &mut String,
-) -> Result<(), AllocError> {
-    let alloc = rt.alloc();
+    line: &mut Line,
+) {
     let Some(limits) = limits_of(way) else {
-        return text.push_str("no number");
+        return line.put("no number");
     };
+    let alloc = rt.alloc();
     let mut reader = Given::new(lines, limits);
     let mut writer = Taken::new(alloc, limits);
     let served = serve_on_one_machine(rt, alloc, &mut reader, &mut writer, files);
-    tell_replies(way, &writer.bytes, served, text)
+    tell_replies(way, &writer.bytes, served, line);
 }
 
 // Returns the limits of a session, or nothing where a number is none.
@@ -114,25 +144,20 @@ fn limits_of(way: &str) -> Option<Limits> {
     Some(limits)
 }
 
-fn tell_replies(
-    way: &str,
-    bytes: &[u8],
-    served: Result<(), ServeFault>,
-    text: &mut String,
-) -> Result<(), AllocError> {
+fn tell_replies(way: &str, bytes: &[u8], served: Result<(), ServeFault>, line: &mut Line) {
     let replies = str::from_utf8(bytes).unwrap_or("no text");
     if way == "counted" {
-        return tell_count(replies, text);
+        return tell_count(replies, line);
     }
-    text.push_str(replies)?;
-    match served {
-        Ok(()) => Ok(()),
-        Err(fault) => write!(text, " {fault}"),
+    line.put_lines(replies, "↵");
+    if let Err(fault) = served {
+        line.put(" ");
+        line.show(&fault);
     }
 }
 
-fn tell_count(replies: &str, text: &mut String) -> Result<(), AllocError> {
-    let count = replies.lines().count();
-    let last = replies.lines().last().unwrap_or("");
-    write!(text, "{count} lines, the last of which is {last}")
+fn tell_count(replies: &str, line: &mut Line) {
+    line.show(&replies.lines().count());
+    line.put(" lines, the last of which is ");
+    line.put(replies.lines().last().unwrap_or(""));
 }

@@ -8,6 +8,7 @@ ghost use Rattle.sources.specs.Writing.{TriesAll, WritesAll};
 ghost use Rattle.conversions.specs.Causes.{StaysBeforeWriting};
 
 use graph_import::{Imported, Plan, format_of, import};
+use line_text::TextBuilder;
 use requests::ImportRequest;
 use sources::{CommandFault, Files, read_text, write};
 use std::alloc::{AllocError, Global};
@@ -100,7 +101,11 @@ fn write_names<'a, F: Files>(
 fn counts_text(alloc: Global, vertices: usize, edges: usize) -> Result<String, AllocError>
     ensures { IfOk result (λ text. string_bytes text ≡ import_line vertices edges) }
 {
-    let mut text = String::new(alloc);
-    writeln!(text, "ok {vertices} {edges}")?;
-    Ok(text)
+    let mut text = TextBuilder::new(alloc);
+    text.put("ok ");
+    text.show(&vertices);
+    text.put(" ");
+    text.show(&edges);
+    text.put("\n");
+    text.finish()
 }

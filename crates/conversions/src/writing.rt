@@ -7,6 +7,7 @@ ghost use Rattle.sources.specs.Reading.{IsUnwritable};
 ghost use Rattle.conversions.specs.Outputs.{PrintsWritten, length_line};
 ghost use Rattle.conversions.specs.Causes.{StaysBeforeWriting};
 
+use line_text::TextBuilder;
 use sources::{CommandFault, Files, write};
 use std::alloc::{AllocError, Global};
 
@@ -32,5 +33,9 @@ pub(crate) fn write_told<'a, F: Files>(
 fn length_text(alloc: Global, length: usize) -> Result<String, AllocError>
     ensures { IfOk result (λ text. string_bytes text ≡ length_line length) }
 {
-    format!(in alloc; "ok {length}\n")
+    let mut text = TextBuilder::new(alloc);
+    text.put("ok ");
+    text.show(&length);
+    text.put("\n");
+    text.finish()
 }

@@ -1,17 +1,19 @@
 //! The explanations of errors, by their kinds.
 
-ghost use Rattle.std.specs.Prelude.{◌≡◌, ◌++◌, codes, IfOk, OnOk, is_some, string_bytes};
+ghost use Rattle.std.specs.Prelude.{◌≡◌, ◌++◌, codes, IfOk, is_some, string_bytes};
 ghost use Rattle.profile_rules.specs.FaultText.{rule_word};
 ghost use Rattle.profile_rules.specs.declared.fault.ProfileFault.TheVariants as profile_fault;
 ghost use Rattle.validate.specs.declared.fault.ValidFault.TheVariants as valid_fault;
 ghost use Rattle.sources.specs.declared.fault.CommandFault.TheVariants as command;
-ghost use Rattle.call_lines.specs.OutputLines.{Gains, IfText};
+ghost use Rattle.line_text.specs.TextBuilder.{Gains};
+ghost use Rattle.call_lines.specs.OutputLines.{IfText};
 ghost use Rattle.explanations.specs.Explanation.{Answers, advice_text, is_explained, part_text};
 ghost use Rattle.explanations.specs.inside.Told.{NamesRecursion, Tells};
 
 use crate::advice::{Advice, bytes, profile, texts, validity};
 use crate::module_place::seen_at;
-use crate::places::{byte_text, cycle_text, line_text};
+use crate::places::{byte_text, cycle_text, position_text};
+use line_text::TextBuilder;
 use profile_rules::{ProfileFault, ProfileRule};
 use sources::Source;
 use std::alloc::{AllocError, Global};
@@ -72,12 +74,13 @@ fn ruled(
     ensures { IfOk result (λ told. string_bytes told
         ≡ (codes "Rule " ++ rule_word rule ++ codes ": ") ++ (advice_text advice.now ++ place.now)) }
 {
-    let mut told = String::new(alloc);
-    let word = word_of(rule);
-    write!(told, "Rule {word}: ")?;
-    push_advice(&mut told, advice)?;
-    told.push_str(place)?;
-    Ok(told)
+    let mut told = TextBuilder::new(alloc);
+    told.put("Rule ");
+    told.put(word_of(rule));
+    told.put(": ");
+    push_advice(&mut told, advice);
+    told.put(place);
+    told.finish()
 }
 
 // Returns the name of the rule.
@@ -103,23 +106,26 @@ fn word_of(rule: ProfileRule) -> &'static str
 }
 
 // Appends the sentence to a text, and the advice for each language.
-fn push_advice(told: &mut String, advice: &Advice) -> Result<(), AllocError>
-    ensures { OnOk result (Gains told.old told.new (advice_text advice.now)) }
+fn push_advice(told: &mut TextBuilder, advice: &Advice)
+    ensures { Gains told.old told.new (advice_text advice.now) }
 {
-    let sentence = advice.sentence;
-    writeln!(told, "{sentence}")?;
-    push_part(told, "In WebAssembly text", advice.text)?;
-    push_part(told, "In C", advice.c)?;
-    push_part(told, "In Rust", advice.rust)
+    told.put(advice.sentence);
+    told.put("\n");
+    push_part(told, "In WebAssembly text", advice.text);
+    push_part(told, "In C", advice.c);
+    push_part(told, "In Rust", advice.rust);
 }
 
-fn push_part(told: &mut String, language: &str, said: &str) -> Result<(), AllocError>
-    ensures { OnOk result (Gains told.old told.new (part_text language.now said.now)) }
+fn push_part(told: &mut TextBuilder, language: &str, said: &str)
+    ensures { Gains told.old told.new (part_text language.now said.now) }
 {
     if said.is_empty() {
-        return Ok(());
+        return;
     }
-    write!(told, "\n{language}:\n{said}")
+    told.put("\n");
+    told.put(language);
+    told.put(":\n");
+    told.put(said);
 }
 
 // Joins the advice on a fault that is not one of the profile, and a place.
@@ -127,10 +133,10 @@ fn plain(alloc: Global, advice: &Advice, place: &str) -> Result<String, AllocErr
     ensures { IfOk result (λ told. string_bytes told
         ≡ advice_text advice.now ++ place.now) }
 {
-    let mut told = String::new(alloc);
-    push_advice(&mut told, advice)?;
-    told.push_str(place)?;
-    Ok(told)
+    let mut told = TextBuilder::new(alloc);
+    push_advice(&mut told, advice);
+    told.put(place);
+    told.finish()
 }
 
 /// Explains why a module is not valid.
@@ -172,10 +178,7 @@ pub fn no_text(
     let Some(place) = position_of(fault) else {
         return Ok(None);
     };
-    let line = match source {
-        Some(Source::Text(text)) => line_text(alloc, text.as_str(), place)?,
-        _ => String::new(alloc),
-    };
+    let line = position_text(alloc, source, place)?;
     let advice = texts::advice_of(fault);
     let told = plain(alloc, &advice, line.as_str())?;
     Ok(Some(told))
@@ -209,10 +212,7 @@ pub fn no_module(
     let DecodeFault::Refused(rule, place) = fault else {
         return Ok(None);
     };
-    let around = match source {
-        Some(Source::Binary(bytes)) => byte_text(alloc, bytes.as_slice(), place)?,
-        _ => String::new(alloc),
-    };
+    let around = byte_text(alloc, source, place)?;
     let advice = bytes::advice_of(rule);
     let told = plain(alloc, &advice, around.as_str())?;
     Ok(Some(told))

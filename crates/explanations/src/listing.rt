@@ -1,11 +1,12 @@
 //! The lines around a place in the text of a module.
 
-ghost use Rattle.std.specs.Prelude.{◌≡◌, ◌+◌, ◌<◌, ◌≤◌, ◌^◌, Contains, IfOk, IfSome, OnOk, count_by, length};
+ghost use Rattle.std.specs.Prelude.{◌≡◌, ◌+◌, ◌<◌, ◌≤◌, ◌^◌, Contains, IfOk, IfSome, count_by, length};
 ghost use Rattle.std.specs.Str.Lines.{lines};
-ghost use Rattle.call_lines.specs.OutputLines.{Gains};
+ghost use Rattle.line_text.specs.TextBuilder.{Gains};
 ghost use Rattle.explanations.specs.Listing.{IsStretch, is_marked, is_numbered, listed, listed_line, mark, next_number};
 ghost use Rattle.explanations.specs.inside.Shown.{Cuts, ListsPart, texts};
 
+use line_text::TextBuilder;
 use std::alloc::{AllocError, Global};
 
 /// The lines of the text of a module, as `print` writes it.
@@ -228,15 +229,11 @@ fn place_in(body: &[&str], instruction: u32) -> Option<usize> {
 }
 
 /// Appends the lines of a body around an instruction to a text, or its last lines where no instruction is named.
-pub fn push_around(
-    text: &mut String,
-    body: &[&str],
-    instruction: Option<u32>,
-) -> Result<(), AllocError>
-    ensures { OnOk result (ListsPart text.old text.new instruction body.now) }
+pub fn push_around(text: &mut TextBuilder, body: &[&str], instruction: Option<u32>)
+    ensures { ListsPart text.old text.new instruction body.now }
 {
     let shown = shown_of(body, first_shown(body, instruction));
-    push_lines(text, shown.lines, shown.first, instruction)
+    push_lines(text, shown.lines, shown.first, instruction);
 }
 
 // Finds the first line that is shown.
@@ -277,40 +274,31 @@ fn shown_of<'a, 'b>(body: &'b [&'a str], from: usize) -> Shown<'a, 'b>
 
 // Appends lines to a text, each instruction after its number. `first` is the number of the first instruction, and `>`
 // marks the instruction that is named.
-fn push_lines(
-    text: &mut String,
-    lines: &[&str],
-    first: u64,
-    marked: Option<u32>,
-) -> Result<(), AllocError>
+fn push_lines(text: &mut TextBuilder, lines: &[&str], first: u64, marked: Option<u32>)
     requires { first + length lines.now < 2 ^ 64 }
-    ensures { OnOk result (Gains text.old text.new (listed marked first (texts lines.now))) }
+    ensures { Gains text.old text.new (listed marked first (texts lines.now)) }
 {
     let mut number = first;
     for line in lines {
-        number = push_line(text, number, marked, line)?;
+        number = push_line(text, number, marked, line);
     }
-    Ok(())
 }
 
 // Appends a line to a text, and returns the number of the next instruction.
-fn push_line(
-    text: &mut String,
-    number: u64,
-    marked: Option<u32>,
-    line: &str,
-) -> Result<u64, AllocError>
+fn push_line(text: &mut TextBuilder, number: u64, marked: Option<u32>, line: &str) -> u64
     requires { number + 1 < 2 ^ 64 }
-    ensures { IfOk result (λ next. (next ≡ next_number number line.now)
-        × Gains text.old text.new (listed_line marked number line.now)) }
+    ensures next { result ≡ next_number number line.now }
+    ensures gains { Gains text.old text.new (listed_line marked number line.now) }
 {
     if !is_numbered(line) {
-        writeln!(text, "         {line}")?;
-        return Ok(number);
+        text.show(&format_args!("         {line}"));
+        text.put("\n");
+        return number;
     }
     let mark = mark(is_marked(number, marked));
-    writeln!(text, "{mark} {number:6} {line}")?;
-    Ok(number + 1)
+    text.show(&format_args!("{mark} {number:6} {line}"));
+    text.put("\n");
+    number + 1
 }
 
 fn is_marked(number: u64, marked: Option<u32>) -> bool

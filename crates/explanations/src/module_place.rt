@@ -1,15 +1,17 @@
 //! Places in a module's functions.
 
-ghost use Rattle.std.specs.Prelude.{◌≡◌, [], IfOk, OnOk, string_bytes};
+ghost use Rattle.std.specs.Prelude.{◌≡◌, [], IfOk, string_bytes};
 ghost use Rattle.std.specs.Str.Lines.{lines};
 ghost use Rattle.wasm_ast.specs.Limits.{IsWithinLimits};
 ghost use Rattle.wat_syntax.specs.Layout.{layout};
-ghost use Rattle.call_lines.specs.OutputLines.{Gains, IfText, line};
+ghost use Rattle.line_text.specs.TextBuilder.{Gains};
+ghost use Rattle.call_lines.specs.OutputLines.{IfText, line};
 ghost use Rattle.explanations.specs.Explanation.{ShowsLines};
 ghost use Rattle.explanations.specs.inside.Shown.{texts};
 ghost use Rattle.explanations.specs.inside.Told.{Sees, SeesPlace, ShowsBody, ShowsLine};
 
 use crate::listing::{Printed, Sight, push_around};
+use line_text::TextBuilder;
 use sources::{Source, module_of};
 use std::alloc::{AllocError, Global};
 use validate::Place;
@@ -112,19 +114,23 @@ fn place_text(alloc: Global, printed: &Printed, place: Place) -> Result<String, 
 fn import_text(alloc: Global, function: u32, whole: &str) -> Result<String, AllocError>
     ensures { IfText result (ShowsLine whole.now) }
 {
-    let mut text = import_heading(alloc, function)?;
-    push_whole(&mut text, whole)?;
-    Ok(text)
+    let mut text = TextBuilder::new(alloc);
+    push_import_heading(&mut text, function);
+    push_whole(&mut text, whole);
+    text.finish()
 }
 
-fn import_heading(alloc: Global, function: u32) -> Result<String, AllocError> {
-    format!(in alloc; "\nFunction {function} is imported:\n         ")
+fn push_import_heading(text: &mut TextBuilder, function: u32) {
+    text.put("\nFunction ");
+    text.show(&function);
+    text.put(" is imported:\n         ");
 }
 
-fn push_whole(text: &mut String, whole: &str) -> Result<(), AllocError>
-    ensures { OnOk result (Gains text.old text.new (line whole.now)) }
+fn push_whole(text: &mut TextBuilder, whole: &str)
+    ensures { Gains text.old text.new (line whole.now) }
 {
-    writeln!(text, "{whole}")
+    text.put(whole);
+    text.put("\n");
 }
 
 // Makes the text that shows the lines of a body around an instruction.
@@ -136,23 +142,28 @@ fn body_text(
 ) -> Result<String, AllocError>
     ensures { IfText result (ShowsBody (texts body.now) instruction) }
 {
-    let mut text = heading_of(alloc, function, instruction)?;
-    push_around(&mut text, body, instruction)?;
-    Ok(text)
+    let mut text = TextBuilder::new(alloc);
+    push_heading(&mut text, function, instruction);
+    push_around(&mut text, body, instruction);
+    text.finish()
 }
 
-// Makes the heading above the lines.
-fn heading_of(
-    alloc: Global,
-    function: u32,
-    instruction: Option<u32>,
-) -> Result<String, AllocError> {
+// Appends the heading above the lines.
+fn push_heading(text: &mut TextBuilder, function: u32, instruction: Option<u32>) {
     match instruction {
-        Some(instruction) => format!(in alloc;
-            "\nFunction {function}, around instruction {instruction}. {COUNTING}"
-        ),
-        None => format!(in alloc; "\nThe end of function {function}. {COUNTING}"),
+        Some(instruction) => {
+            text.put("\nFunction ");
+            text.show(&function);
+            text.put(", around instruction ");
+            text.show(&instruction);
+        }
+        None => {
+            text.put("\nThe end of function ");
+            text.show(&function);
+        }
     }
+    text.put(". ");
+    text.put(COUNTING);
 }
 
 // Returns what the numbers of a listing are.

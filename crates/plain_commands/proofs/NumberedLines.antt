@@ -15,13 +15,9 @@ pushed word n (y ∷ ys) x =
     ∙ sym (append_assoc first (numbered_lines word (suc n) ys) (numbered_line word (suc n + length ys) x))
     ∙ ap (λ k. (first ++ numbered_lines word (suc n) ys) ++ numbered_line word k x) here
 
-pub numbered_more : (word : List ℕ) (n : ℕ) (xs before : List ℕ) (i d : ℕ) → i < length xs
-    → (before ++ numbered_lines word n (take i xs)) ++ numbered_line word (n + i) (get_or xs i d)
-    ≡ before ++ numbered_lines word n (take (i + 1) xs)
-numbered_more word n xs before i d below =
-    let last = numbered_line word (n + i) (get_or xs i d) in
-    append_assoc before (numbered_lines word n (take i xs)) last
-    ∙ ap (λ zs. before ++ zs)
-    (sym (ap (numbered_lines word n) (take_more xs i d below) ∙ pushed word n (take i xs) (get_or xs i d)
+pub numbered_more : (word : List ℕ) (n : ℕ) (xs : List ℕ) (i d : ℕ) → i < length xs
+    → numbered_lines word n (take i xs) ++ numbered_line word (n + i) (get_or xs i d) ≡ numbered_lines word n (take (i + 1) xs)
+numbered_more word n xs i d below =
+    sym (ap (numbered_lines word n) (take_more xs i d below) ∙ pushed word n (take i xs) (get_or xs i d)
     ∙ ap (λ k. numbered_lines word n (take i xs) ++ numbered_line word (n + k) (get_or xs i d))
-    (length-take-le i xs (omega arith))))
+    (length-take-le i xs (omega arith)))

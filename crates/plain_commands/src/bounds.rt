@@ -7,6 +7,7 @@ ghost use Rattle.plain_commands.specs.Outputs.{IsBoundsLine, PrintsBounds, bound
 ghost use Rattle.plain_commands.specs.Sizes.{IsNotAdmitted};
 
 use crate::sizes::load_within;
+use line_text::TextBuilder;
 use requests::ModuleRequest;
 use sources::{CommandFault, Files};
 use std::alloc::{AllocError, Global};
@@ -38,7 +39,13 @@ fn bounds_of(alloc: Global, verified: &Verified) -> Result<String, AllocError>
 fn bounds_text(alloc: Global, size: u32, operands: u32, frames: u32) -> Result<String, AllocError>
     ensures { IfOk result (λ text. string_bytes text ≡ bounds_line size operands frames) }
 {
-    let mut text = String::new(alloc);
-    writeln!(text, "ok size {size} operands {operands} frames {frames}")?;
-    Ok(text)
+    let mut text = TextBuilder::new(alloc);
+    text.put("ok size ");
+    text.show(&size);
+    text.put(" operands ");
+    text.show(&operands);
+    text.put(" frames ");
+    text.show(&frames);
+    text.put("\n");
+    text.finish()
 }

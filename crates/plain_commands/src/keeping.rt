@@ -8,6 +8,7 @@ ghost use Rattle.sources.specs.declared.fault.CommandFault.TheVariants.{Resume};
 ghost use Rattle.plain_commands.specs.Keeping.{IsNoFolder, IsNotReady, IsUnidentified};
 
 use checkpoint::{Device, FileKeep, Folder, JobId, Kinship, compare, digest_of, job_text};
+use line_text::TextBuilder;
 use requests::{JobRequest, RunRequest};
 use sources::{CommandFault, Files, read_bytes};
 use std::alloc::{AllocError, Global};
@@ -218,7 +219,11 @@ fn kinship_in(
 }
 
 fn path_in(alloc: Global, folder: &str, name: &str) -> Result<String, AllocError> {
-    format!(in alloc; "{folder}/{name}")
+    let mut path = TextBuilder::new(alloc);
+    path.put(folder);
+    path.put("/");
+    path.put(name);
+    path.finish()
 }
 
 // Tells why a run may not go on with the checkpoints of a folder, where it is to and may not.

@@ -173,7 +173,7 @@ fn capped_all(alloc: Global, numbers: &[u128]) -> Result<Vec<u64>, AllocError>
 {
     let mut all = Vec::with_capacity(alloc, numbers.len())?;
     for number in numbers {
-        all.push(capped(*number))?;
+        all.push_reserved(capped(*number));
     }
     Ok(all)
 }

@@ -1,9 +1,10 @@
 //! The replay of a job over a list of steps.
 
-ghost use Rattle.std.specs.Prelude.{◌≡◌, ◌++◌, IfOk, IfErr, OnOk, codes, string_bytes, MatchResult};
+ghost use Rattle.std.specs.Prelude.{◌≡◌, ◌++◌, IfOk, IfErr, codes, string_bytes, MatchResult};
 ghost use Rattle.std.specs.Fmt.{decimal};
 ghost use Rattle.std.specs.List.{flat_map};
-ghost use Rattle.call_lines.specs.OutputLines.{Gains, IfText, line};
+ghost use Rattle.line_text.specs.TextBuilder.{Gains};
+ghost use Rattle.call_lines.specs.OutputLines.{IfText, line};
 ghost use Rattle.plain_commands.specs.Replays.{AreReplayLines, IsFaultOfReplay, answer_line, replay_end_lines, report_lines, said_line, trace_lines};
 ghost use Rattle.sources.specs.Disk.{Stays};
 ghost use Rattle.plain_commands.specs.Outputs.{AreStepsAt, PrintsReplay};
@@ -14,6 +15,7 @@ use crate::opening::job_of;
 use crate::steps::steps_of;
 use book::{Answer, Report};
 use checkpoint::{Device, MemoryKeep};
+use line_text::TextBuilder;
 use requests::JobRequest;
 use rollback::{Outcome, Step, StepAnswer, Trace, simulate};
 use sources::{CommandFault, Files, read_text};
@@ -83,23 +85,22 @@ fn replay<'a, R: Threads + Sync + Device + AllocGlobal>(
 pub fn trace_text(alloc: Global, trace: &Trace, tells_units: bool) -> Result<String, AllocError>
     ensures { IfOk result (λ text. string_bytes text ≡ trace_lines tells_units trace.now) }
 {
-    let mut text = String::new(alloc);
-    push_answers(&mut text, &trace.answers)?;
-    push_outcome(&mut text, &trace.outcome, tells_units)?;
-    Ok(text)
+    let mut text = TextBuilder::new(alloc);
+    push_answers(&mut text, &trace.answers);
+    push_outcome(&mut text, &trace.outcome, tells_units);
+    text.finish()
 }
 
-fn push_answers(text: &mut String, answers: &[StepAnswer]) -> Result<(), AllocError>
-    ensures { OnOk result (Gains text.old text.new (flat_map answer_line answers.now)) }
+fn push_answers(text: &mut TextBuilder, answers: &[StepAnswer])
+    ensures { Gains text.old text.new (flat_map answer_line answers.now) }
 {
     for answer in answers {
-        push_answer(text, *answer)?;
+        push_answer(text, *answer);
     }
-    Ok(())
 }
 
-fn push_answer(text: &mut String, answer: StepAnswer) -> Result<(), AllocError>
-    ensures { OnOk result (Gains text.old text.new (answer_line answer)) }
+fn push_answer(text: &mut TextBuilder, answer: StepAnswer)
+    ensures { Gains text.old text.new (answer_line answer) }
 {
     match answer {
         StepAnswer::Idle => push_word(text, "idle"),
@@ -108,8 +109,8 @@ fn push_answer(text: &mut String, answer: StepAnswer) -> Result<(), AllocError>
     }
 }
 
-fn push_said(text: &mut String, answer: Answer) -> Result<(), AllocError>
-    ensures { OnOk result (Gains text.old text.new (said_line answer)) }
+fn push_said(text: &mut TextBuilder, answer: Answer)
+    ensures { Gains text.old text.new (said_line answer) }
 {
     match answer {
         Answer::Taken => push_word(text, "taken"),
@@ -120,21 +121,24 @@ fn push_said(text: &mut String, answer: Answer) -> Result<(), AllocError>
     }
 }
 
-fn push_word(text: &mut String, word: &str) -> Result<(), AllocError>
-    ensures { OnOk result (Gains text.old text.new (line word.now)) }
+fn push_word(text: &mut TextBuilder, word: &str)
+    ensures { Gains text.old text.new (line word.now) }
 {
-    writeln!(text, "{word}")
+    text.put(word);
+    text.put("\n");
 }
 
-fn push_counted(text: &mut String, word: &str, number: u32) -> Result<(), AllocError>
-    ensures { OnOk result
-        (Gains text.old text.new (line (word.now ++ codes " " ++ decimal number))) }
+fn push_counted(text: &mut TextBuilder, word: &str, number: u32)
+    ensures { Gains text.old text.new (line (word.now ++ codes " " ++ decimal number)) }
 {
-    writeln!(text, "{word} {number}")
+    text.put(word);
+    text.put(" ");
+    text.show(&number);
+    text.put("\n");
 }
 
-fn push_outcome(text: &mut String, outcome: &Outcome, tells_units: bool) -> Result<(), AllocError>
-    ensures { OnOk result (Gains text.old text.new (replay_end_lines tells_units outcome.now)) }
+fn push_outcome(text: &mut TextBuilder, outcome: &Outcome, tells_units: bool)
+    ensures { Gains text.old text.new (replay_end_lines tells_units outcome.now) }
 {
     match outcome {
         Outcome::Open(superstep) => push_counted(text, "open", *superstep),
@@ -142,11 +146,16 @@ fn push_outcome(text: &mut String, outcome: &Outcome, tells_units: bool) -> Resu
     }
 }
 
-fn push_report(text: &mut String, report: &Report, tells_units: bool) -> Result<(), AllocError>
-    ensures { OnOk result (Gains text.old text.new (report_lines tells_units report.now)) }
+fn push_report(text: &mut TextBuilder, report: &Report, tells_units: bool)
+    ensures { Gains text.old text.new (report_lines tells_units report.now) }
 {
-    push_ended(text, &report.ended, tells_units)?;
-    let (epoch, missed, restarts) = (report.epoch, report.missed, report.restarts);
-    writeln!(text, "epoch {epoch} missed {missed} restarts {restarts}")?;
-    push_numbered(text, "spent", 0, &report.spent)
+    push_ended(text, &report.ended, tells_units);
+    text.put("epoch ");
+    text.show(&report.epoch);
+    text.put(" missed ");
+    text.show(&report.missed);
+    text.put(" restarts ");
+    text.show(&report.restarts);
+    text.put("\n");
+    push_numbered(text, "spent", 0, &report.spent);
 }

@@ -25,37 +25,22 @@ use std::thread::{Threads, available_parallelism};
 use std::time::Clock;
 use std::{env, io};
 
-fn main(rt: HostRuntime) -> ExitCode {
-    let is_terminal = rt.stderr().is_terminal();
-    let outcome = run(&rt, is_terminal);
-    exit_code(&rt, outcome)
-}
-
-// Runs the program and returns its status:
+// Runs the program, and ends with its status:
 // * 0: an answer, a session that ended well, or help;
 // * 1: a refusal, also because memory ran out;
 // * 2: a mistake in the command line;
 // * 3: a job that ended with a fault;
 // * 4: a file, standard input or standard output that cannot be read or written, or a session that ran out of memory.
-fn run(
-    rt: &(impl Clock
-        + Env
-        + Input
-        + System
-        + Device
-        + Folder
-        + Print
-        + Eprint
-        + AllocGlobal
-        + Threads
-        + Wait
-        + Sync),
-    is_terminal: bool,
-) -> io::Result<u8> {
-    match words(rt) {
-        Ok(words) => read_and_execute(rt, words.as_slice(), is_terminal),
-        Err(error) => refuse_arguments(rt, error),
-    }
+fn main(rt: HostRuntime) -> ExitCode {
+    let is_terminal = rt.stderr().is_terminal();
+    let outcome = match words(&rt) {
+        Ok(words) => match options(rt.alloc(), words.as_slice()) {
+            Ok(options) => Ok(execute_asked(&rt, options, is_terminal)),
+            Err(error) => refuse_words(&rt, &error),
+        },
+        Err(error) => refuse_arguments(&rt, error),
+    };
+    exit_code(&rt, outcome)
 }
 
 // Reads the words of the command line. The first is the program's name.
@@ -73,28 +58,6 @@ fn refuse_arguments(rt: &impl Eprint, error: io::Error) -> io::Result<u8> {
     Ok(2)
 }
 
-// Does what the words ask for; the first is the program's name. Standard error is a terminal or is not.
-fn read_and_execute(
-    rt: &(impl Clock
-        + Input
-        + System
-        + Device
-        + Folder
-        + Print
-        + Eprint
-        + AllocGlobal
-        + Threads
-        + Wait
-        + Sync),
-    words: &[String],
-    is_terminal: bool,
-) -> io::Result<u8> {
-    match options(rt.alloc(), words) {
-        Ok(options) => Ok(execute_asked(rt, options, is_terminal)),
-        Err(error) => refuse_words(rt, &error),
-    }
-}
-
 // Prints why the words are refused, or the help that they ask for.
 fn refuse_words(rt: &(impl Print + Eprint), error: &clap::Error) -> io::Result<u8> {
     if error.kind() == ErrorKind::OutOfMemory {
@@ -104,7 +67,7 @@ fn refuse_words(rt: &(impl Print + Eprint), error: &clap::Error) -> io::Result<u
     Ok(if error.use_stderr() { 2 } else { 0 })
 }
 
-// Does what the options ask for, with the system's files and streams.
+// Does what the options ask for, with the system's files and streams. Standard error is a terminal or is not.
 fn execute_asked(
     rt: &(impl Clock
         + Input

@@ -1,7 +1,7 @@
 //! A run as JSON.
 
-ghost use Rattle.std.specs.Prelude.{◌≡◌, ◌++◌, IfOk, OnOk, Some, codes, map, string_bytes};
-ghost use Rattle.run_report.specs.Json.{IsJsonOf, count_data, counts_data, fault_data, number_data, numbers_data, outcome_data, report_data, settings_data, superstep_data, with_counts};
+ghost use Rattle.std.specs.Prelude.{◌≡◌, IfOk, OnOk, Some, codes, string_bytes};
+ghost use Rattle.run_report.specs.Json.{IsJsonOf, count_data, counts_data, fault_data, numbers_data, outcome_data, report_data, settings_data, superstep_data, with_counts};
 ghost use Rattle.serde_json.specs.Data.{no_members, object, put as with_member, string};
 ghost use Rattle.serde_json.specs.Read.{read};
 ghost use Rattle.serde_json.specs.View.{members_view, view};
@@ -9,7 +9,7 @@ ghost use Rattle.serde_json.specs.Written.{compact_text};
 
 use crate::SuperstepCounts;
 use crate::report::{JobFiles, Outcome, RunReport, RunSettings};
-use serde_json::{Map, Value, push, put};
+use serde_json::{Map, Value, put};
 use std::alloc::{AllocError, Global};
 
 /// The report as one line of JSON, which reads back as what was reported. The only refusal is that there is no memory.
@@ -197,39 +197,19 @@ fn counts_value(alloc: Global, counts: &[SuperstepCounts]) -> Result<Value, Allo
     ensures { IfOk result (λ value. view value ≡ counts_data counts.now) }
 {
     let mut values = Vec::with_capacity(alloc, counts.len())?;
-    push_counts(&mut values, alloc, counts)?;
-    Ok(Value::Array(values))
-}
-
-fn push_counts(
-    values: &mut Vec<Value>,
-    alloc: Global,
-    counts: &[SuperstepCounts],
-) -> Result<(), AllocError>
-    ensures { OnOk result (map view values.new.items
-        ≡ map view values.old.items ++ map superstep_data counts.now) }
-{
     for counts in counts {
         let value = superstep_value(alloc, counts)?;
-        push(values, value)?;
+        values.push_reserved(value);
     }
-    Ok(())
+    Ok(Value::Array(values))
 }
 
 fn numbers_value(alloc: Global, numbers: &[u64]) -> Result<Value, AllocError>
     ensures { IfOk result (λ value. view value ≡ numbers_data numbers.now) }
 {
     let mut values = Vec::with_capacity(alloc, numbers.len())?;
-    push_numbers(&mut values, numbers)?;
-    Ok(Value::Array(values))
-}
-
-fn push_numbers(values: &mut Vec<Value>, numbers: &[u64]) -> Result<(), AllocError>
-    ensures { OnOk result (map view values.new.items
-        ≡ map view values.old.items ++ map number_data numbers.now) }
-{
     for number in numbers {
-        push(values, Value::from(*number))?;
+        values.push_reserved(Value::from(*number));
     }
-    Ok(())
+    Ok(Value::Array(values))
 }

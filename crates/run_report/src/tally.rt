@@ -192,14 +192,22 @@ impl Tally {
     fn counts_at(&self, superstep: u32, units: Option<u64>) -> SuperstepCounts
         ensures { result ≡ counts_at self.now superstep units }
     {
-        let row = self.row(superstep);
+        let Some(row) = self.row(superstep) else {
+            return SuperstepCounts {
+                superstep: u64::from(superstep),
+                units,
+                called: None,
+                sent: None,
+                dropped: None,
+            };
+        };
         let next = self.row(superstep.saturating_add(1));
         SuperstepCounts {
             superstep: u64::from(superstep),
-            units: units.or(row.map(|row| row.units)),
-            called: row.map(|row| row.called),
-            sent: row.map(|row| row.sent),
-            dropped: dropped_of(row, next),
+            units: units.or(Some(row.units)),
+            called: Some(row.called),
+            sent: Some(row.sent),
+            dropped: dropped_of(Some(row), next),
         }
     }
 }

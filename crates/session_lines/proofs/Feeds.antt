@@ -1,5 +1,5 @@
 -- Where the first line of some bytes ends.
-use Rattle.std.proofs.Common.{inl, inr, ◌≡◌, ℕ, zero, suc, ◌+◌, ◌-◌, ◌<◌, ◌≤◌, min, true, false, not, cond, List, [], ◌∷◌, ◌++◌, length, take, drop, refl, ap, sym, ◌∙◌, arith, append_assoc, length-append, length-drop, Result, Ok, Err}
+use Rattle.std.proofs.Common.{inl, inr, ◌≡◌, ℕ, zero, suc, ◌+◌, ◌-◌, ◌<◌, ◌≤◌, min, true, false, not, cond, List, [], ◌∷◌, ◌++◌, length, take, drop, drop-cons, get_or, refl, ap, sym, ◌∙◌, add-one, arith, append_assoc, length-append, length-drop, Result, Ok, Err}
 use Rattle.std.specs.Prelude.{OnOk, is_ok}
 use Rattle.std.specs.List.{position_or_len}
 use Rattle.std.proofs.lemmas.Bool.{cases_Bool, cases_lt}
@@ -14,12 +14,27 @@ place-feed byte bytes feed = ap (λ b. cond (not b) (1 + position_or_len is_feed
 place-other : (byte : ℕ) (bytes : List ℕ) → is_feed byte ≡ false → position_or_len is_feed (byte ∷ bytes) ≡ suc (position_or_len is_feed bytes)
 place-other byte bytes other = ap (λ b. cond (not b) (1 + position_or_len is_feed bytes) 0) other ∙ omega arith
 
-pub place-le : (bytes : List ℕ) → position_or_len is_feed bytes ≤ length bytes
+place-le : (bytes : List ℕ) → position_or_len is_feed bytes ≤ length bytes
 place-le [] = omega arith
 place-le (byte ∷ bytes) = elim (cases_Bool (is_feed byte)) [
   | inl feed ↦ rw (place-feed byte bytes feed) (omega arith)
   | inr other ↦ let below = place-le bytes in rw (place-other byte bytes other) (omega arith)
 ]
+
+-- ---- the search for it, where it stands at none of the places before this one
+
+pub found_later : (bytes : List ℕ) (place d : ℕ) → place < length bytes → is_feed (get_or bytes place d) ≡ false
+    → position_or_len is_feed bytes ≡ place + position_or_len is_feed (drop place bytes)
+    → position_or_len is_feed bytes ≡ place + 1 + position_or_len is_feed (drop (place + 1) bytes)
+found_later bytes place d within other so_far =
+    let later : position_or_len is_feed (drop place bytes) ≡ suc (position_or_len is_feed (drop (suc place) bytes)) =
+    ap (position_or_len is_feed) (drop-cons bytes place d within) ∙ place-other (get_or bytes place d) (drop (suc place) bytes) other in
+    let step : position_or_len is_feed bytes ≡ place + 1 + position_or_len is_feed (drop (suc place) bytes) = omega (arith, later, so_far) in
+    step ∙ ap (λ n. place + 1 + position_or_len is_feed (drop n bytes)) (sym (add-one place))
+
+pub found_nowhere : (bytes : List ℕ) (place : ℕ) → length bytes ≤ place
+    → position_or_len is_feed bytes ≡ place + position_or_len is_feed (drop place bytes) → length bytes ≡ position_or_len is_feed bytes
+found_nowhere bytes place past so_far = omega (arith, so_far, place-le bytes)
 
 -- ---- bytes without a line feed
 

@@ -29,10 +29,12 @@ fn feed_place(bytes: &[u8]) -> usize
     ensures place { result ≡ position_or_len is_feed bytes.now }
     ensures within { result ≤ length bytes.now }
 {
-    bytes
-        .iter()
-        .position(|byte| *byte == b'\n')
-        .unwrap_or(bytes.len())
+    for (place, byte) in bytes.iter().enumerate() {
+        if *byte == b'\n' {
+            return place;
+        }
+    }
+    bytes.len()
 }
 
 /// Adds bytes to the beginning of a line, of which at most `KEPT` bytes are kept.

@@ -1,13 +1,13 @@
 //! The replies that refuse a file or the settings of a job.
 
 ghost use Rattle.std.specs.Prelude.{◌≡◌, ◌++◌, IfOk, MatchOption, None, Some, codes, string_bytes};
-ghost use Rattle.sources.specs.Refusal.{fault_text};
 ghost use Rattle.session_lines.specs.Words.{words_of};
 ghost use Rattle.session_lines.specs.Replies.{no_line, number_of, refusal_line, third, with_word, word_of};
 ghost use Rattle.session_lines.specs.inside.Seen.{IsToldOrNoMemory, reply_text};
 
 use crate::reply::Reply;
 use crate::word::first_word;
+use line_text::TextBuilder;
 use sources::CommandFault;
 use std::alloc::{AllocError, Global};
 
@@ -40,22 +40,14 @@ fn number_of(fault: &CommandFault) -> Option<&'static str>
     }
 }
 
+// Makes the reply of a number and the third word of the line that the program prints for a fault.
 fn numbered(alloc: Global, number: &str, fault: &CommandFault) -> Reply
     ensures { IsToldOrNoMemory (with_word number.now (word_of fault.now)) (reply_text result) }
 {
-    match displayed(alloc, fault) {
+    match fault.to_string(alloc) {
         Ok(line) => worded(alloc, number, third_word(line.as_str())),
         Err(_) => Reply::OutOfMemory,
     }
-}
-
-// Writes the line that the program prints for a fault, without its line feed.
-fn displayed(alloc: Global, fault: &CommandFault) -> Result<String, AllocError>
-    ensures { IfOk result (λ text. string_bytes text ≡ fault_text fault.now) }
-{
-    let mut text = String::new(alloc);
-    write!(text, "{fault}")?;
-    Ok(text)
 }
 
 fn third_word(line: &str) -> &str
@@ -86,7 +78,11 @@ fn refusal_text(alloc: Global, number: &str, word: &str) -> Result<String, Alloc
     ensures { IfOk result
         (λ text. string_bytes text ≡ no_line (number.now ++ codes " " ++ word.now)) }
 {
-    let mut text = String::new(alloc);
-    writeln!(text, "no {number} {word}")?;
-    Ok(text)
+    let mut text = TextBuilder::new(alloc);
+    text.put("no ");
+    text.put(number);
+    text.put(" ");
+    text.put(word);
+    text.put("\n");
+    text.finish()
 }

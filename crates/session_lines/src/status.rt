@@ -9,6 +9,7 @@ ghost use Rattle.session_lines.specs.Replies.{fault_data, numbers_of, state_word
 
 use crate::run_state::RunState;
 use call_lines::end_word;
+use line_text::TextBuilder;
 use serde_json::{Map, Value, put};
 use std::alloc::{AllocError, Global};
 
@@ -28,9 +29,11 @@ pub fn status_text(alloc: Global, name: &str, state: &RunState) -> Result<String
     ensures { IfOk result (λ text. string_bytes text ≡ status_line name.now state.now) }
 {
     let json = json_of(alloc, name, state)?;
-    let mut text = String::new(alloc);
-    writeln!(text, "ok {json}")?;
-    Ok(text)
+    let mut text = TextBuilder::new(alloc);
+    text.put("ok ");
+    text.put(json.as_str());
+    text.put("\n");
+    text.finish()
 }
 
 fn json_of(alloc: Global, name: &str, state: &RunState) -> Result<String, AllocError>

@@ -9,6 +9,7 @@ ghost use Rattle.session_lines.specs.inside.Seen.{IsModuleLine, run_end_line};
 use book::Report;
 use call_lines::{end_word, push_values};
 use graph::{Graph, MAX_EDGES, Vertex};
+use line_text::TextBuilder;
 use std::alloc::{AllocError, Global};
 use superstep::{JobEnd, JobFault};
 use verified::Verified;
@@ -23,9 +24,13 @@ pub fn module_text(alloc: Global, name: &str, verified: &Verified) -> Result<Str
 fn sized_text(alloc: Global, name: &str, size: u32) -> Result<String, AllocError>
     ensures { IfOk result (λ text. string_bytes text ≡ module_line name.now size) }
 {
-    let mut text = String::new(alloc);
-    writeln!(text, "ok module {name} {size}")?;
-    Ok(text)
+    let mut text = TextBuilder::new(alloc);
+    text.put("ok module ");
+    text.put(name);
+    text.put(" ");
+    text.show(&size);
+    text.put("\n");
+    text.finish()
 }
 
 /// Writes `ok graph NAME VERTICES EDGES`.
@@ -57,18 +62,26 @@ fn counted_text(
 ) -> Result<String, AllocError>
     ensures { IfOk result (λ text. string_bytes text ≡ graph_line name.now vertices edges) }
 {
-    let mut text = String::new(alloc);
-    writeln!(text, "ok graph {name} {vertices} {edges}")?;
-    Ok(text)
+    let mut text = TextBuilder::new(alloc);
+    text.put("ok graph ");
+    text.put(name);
+    text.put(" ");
+    text.show(&vertices);
+    text.put(" ");
+    text.show(&edges);
+    text.put("\n");
+    text.finish()
 }
 
 /// Writes `ok job NAME`.
 pub fn job_text(alloc: Global, name: &str) -> Result<String, AllocError>
     ensures { IfOk result (λ text. string_bytes text ≡ job_line name.now) }
 {
-    let mut text = String::new(alloc);
-    writeln!(text, "ok job {name}")?;
-    Ok(text)
+    let mut text = TextBuilder::new(alloc);
+    text.put("ok job ");
+    text.put(name);
+    text.put("\n");
+    text.finish()
 }
 
 /// Writes how a run ended: `ok run NAME finished S`, `ok run NAME limit S`, or `no 13 WORD` with the word of its fault.
@@ -88,27 +101,33 @@ pub fn end_text(
 fn run_text(alloc: Global, name: &str, ended: &JobEnd) -> Result<String, AllocError>
     ensures { IfOk result (λ text. string_bytes text ≡ run_line name.now ended.now) }
 {
-    let how = end_word(ended.how);
-    let superstep = ended.superstep;
-    let mut text = String::new(alloc);
-    writeln!(text, "ok run {name} {how} {superstep}")?;
-    Ok(text)
+    let mut text = TextBuilder::new(alloc);
+    text.put("ok run ");
+    text.put(name);
+    text.put(" ");
+    text.put(end_word(ended.how));
+    text.put(" ");
+    text.show(&ended.superstep);
+    text.put("\n");
+    text.finish()
 }
 
 fn failed_text(alloc: Global, fault: JobFault) -> Result<String, AllocError>
     ensures { IfOk result (λ text. string_bytes text ≡ failed_line fault) }
 {
-    let mut text = String::new(alloc);
-    writeln!(text, "no 13 {fault}")?;
-    Ok(text)
+    let mut text = TextBuilder::new(alloc);
+    text.put("no 13 ");
+    text.show(&fault);
+    text.put("\n");
+    text.finish()
 }
 
 /// Writes the values that a job ended with, one a line, and a line with a point.
 pub fn values_text(alloc: Global, ended: &JobEnd) -> Result<String, AllocError>
     ensures { IfOk result (λ text. string_bytes text ≡ values_text ended.now) }
 {
-    let mut text = String::new(alloc);
-    push_values(&mut text, &ended.values)?;
-    writeln!(text, ".")?;
-    Ok(text)
+    let mut text = TextBuilder::new(alloc);
+    push_values(&mut text, &ended.values);
+    text.put(".\n");
+    text.finish()
 }

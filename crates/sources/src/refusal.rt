@@ -1,12 +1,13 @@
 //! The line of a refusal.
 
 ghost use Rattle.std.specs.Prelude.{◌≡◌, ◌++◌, IfOk, Some, codes, string_bytes};
-ghost use Rattle.std.specs.Fmt.{DisplaysOnOk};
+ghost use Rattle.std.specs.Fmt.{DisplaysOnOk, ◌++?◌};
 ghost use Rattle.call_lines.specs.OutputLines.{line};
 ghost use Rattle.sources.specs.Refusal.{fault_text, file_text, input_text, setting_word};
 
 use crate::fault::CommandFault;
 use call_lines::InputFault;
+use line_text::TextBuilder;
 use std::alloc::{AllocError, Global};
 use std::fmt;
 use superstep::Setting;
@@ -21,9 +22,10 @@ use superstep::Setting;
 pub fn refusal_line(alloc: Global, fault: &CommandFault) -> Result<String, AllocError>
     ensures { IfOk result (λ text. string_bytes text ≡ line (fault_text fault.now)) }
 {
-    let mut text = String::new(alloc);
-    writeln!(text, "{fault}")?;
-    Ok(text)
+    let mut text = TextBuilder::new(alloc);
+    text.show(fault);
+    text.put("\n");
+    text.finish()
 }
 
 impl fmt::Display for CommandFault<'_> {
@@ -31,25 +33,37 @@ impl fmt::Display for CommandFault<'_> {
 
     fn fmt<W: fmt::Write>(&self, f: &mut fmt::Formatter<W>) -> fmt::Result {
         match self {
-            CommandFault::Decode(fault) => write!(f, "no decode {fault}"),
-            CommandFault::Text(fault) => write!(f, "no text {fault}"),
-            CommandFault::Invalid(fault) => write!(f, "no valid {fault}"),
-            CommandFault::Unbounded(fault) => write!(f, "no profile {fault}"),
+            CommandFault::Decode(fault) => tell("no decode ", fault, f),
+            CommandFault::Text(fault) => tell("no text ", fault, f),
+            CommandFault::Invalid(fault) => tell("no valid ", fault, f),
+            CommandFault::Unbounded(fault) => tell("no profile ", fault, f),
             CommandFault::Input(fault) => tell_input_fault(*fault, f),
             CommandFault::Run => f.write_str("no run OutOfMemory"),
             CommandFault::Loss => f.write_str("no input lose"),
-            CommandFault::Graph(fault) => write!(f, "no graph {fault}"),
+            CommandFault::Graph(fault) => tell("no graph ", fault, f),
             CommandFault::Settings(setting) => tell_setting(*setting, f),
             CommandFault::MaxSize => f.write_str("no settings max-size"),
             CommandFault::Resume => f.write_str("no settings resume"),
-            CommandFault::Job(fault) => write!(f, "end fault {fault}"),
-            CommandFault::Checkpoint(fault) => write!(f, "no checkpoint {fault}"),
-            CommandFault::Encode(fault) => write!(f, "no encode {fault}"),
+            CommandFault::Job(fault) => tell("end fault ", fault, f),
+            CommandFault::Checkpoint(fault) => tell("no checkpoint ", fault, f),
+            CommandFault::Encode(fault) => tell("no encode ", fault, f),
             CommandFault::Unread(path) => tell_file(path, f),
             CommandFault::Unwritable(path) => tell_file(path, f),
             CommandFault::OutOfMemory => f.write_str("no memory"),
         }
     }
+}
+
+// Writes a fault behind these words.
+fn tell<W: fmt::Write, D: fmt::Display>(
+    words: &str,
+    fault: &D,
+    f: &mut fmt::Formatter<W>,
+) -> fmt::Result
+    ensures { DisplaysOnOk W.write_str_gives f.old result
+        (Some words.now ++? D.output fault.now) f.new }
+{
+    write!(f, "{words}{fault}")
 }
 
 fn tell_file<W: fmt::Write>(path: &str, f: &mut fmt::Formatter<W>) -> fmt::Result

@@ -1,7 +1,6 @@
 //! The printer of a module's fields.
 
-ghost use Rattle.std.specs.Prelude.{◌≡◌, ◌∷◌, ℕ, OnOk, string_bytes};
-ghost use Rattle.wasm_ast.specs.declared.module.ImportDescription.TheVariants as import;
+ghost use Rattle.std.specs.Prelude.{◌≡◌, ◌∷◌, ℕ};
 ghost use Rattle.wasm_ast.specs.Limits.{IsBodyWithin};
 ghost use Rattle.wat_syntax.specs.inside.Writing.{Writes};
 ghost use Rattle.wat_syntax.specs.Instructions.{code, type_word};
@@ -13,7 +12,7 @@ use crate::pieces::{
     Gap, Part, write_closing, write_closing_line, write_count, write_each, write_keyword,
     write_number_in, write_opening, write_string,
 };
-use std::alloc::AllocError;
+use line_text::TextBuilder;
 use wasm_ast::{
     Body, Data, Element, Export, ExportDescription, FuncType, Function, Global, GlobalType, Import,
     ImportDescription, Limits, MAX_NESTING, Mutability, ValType,
@@ -27,74 +26,71 @@ impl Part for ValType {
 
     ghost pieces = { type_word };
 
-    fn write(text: &mut String, word: &ValType) -> Result<(), AllocError> {
-        write_keyword(text, Gap::Space, Keyword::Type(*word))
+    fn write(text: &mut TextBuilder, word: &ValType) {
+        write_keyword(text, Gap::Space, Keyword::Type(*word));
     }
 }
 
 // Writes a keyword and types in parentheses, as `(param i32 i64)`, or nothing where there are no types.
 #[tactic(auto, using(crate::proofs::Codes::all_held))]
-fn write_type_group(
-    text: &mut String,
-    keyword: Keyword,
-    types: &[ValType],
-) -> Result<(), AllocError>
-    ensures { Writes text.old text.new result (type_group keyword types.now) }
+fn write_type_group(text: &mut TextBuilder, keyword: Keyword, types: &[ValType])
+    ensures { Writes text.old text.new (type_group keyword types.now) }
 {
     if types.is_empty() {
-        return Ok(());
+        return;
     }
-    write_opening(text, Gap::Space, keyword)?;
-    write_each::<ValType>(text, types)?;
-    write_closing(text)
+    write_opening(text, Gap::Space, keyword);
+    write_each::<ValType>(text, types);
+    write_closing(text);
 }
 
-fn write_limits(text: &mut String, given: Limits) -> Result<(), AllocError>
-    ensures { Writes text.old text.new result (limits given) }
+fn write_limits(text: &mut TextBuilder, given: Limits)
+    ensures { Writes text.old text.new (limits given) }
 {
-    write_count(text, given.minimum)?;
-    match given.maximum {
-        None => Ok(()),
-        Some(maximum) => write_count(text, maximum),
+    write_count(text, given.minimum);
+    if let Some(maximum) = given.maximum {
+        write_count(text, maximum);
     }
 }
 
-fn write_global_type(text: &mut String, global: GlobalType) -> Result<(), AllocError>
-    ensures { Writes text.old text.new result (global_type global) }
+fn write_global_type(text: &mut TextBuilder, global: GlobalType)
+    ensures { Writes text.old text.new (global_type global) }
 {
     match global.mutability {
         Mutability::Constant => write_keyword(text, Gap::Space, Keyword::Type(global.value)),
         Mutability::Variable => {
-            write_opening(text, Gap::Space, Keyword::Mut)?;
-            write_keyword(text, Gap::Space, Keyword::Type(global.value))?;
-            write_closing(text)
+            write_opening(text, Gap::Space, Keyword::Mut);
+            write_keyword(text, Gap::Space, Keyword::Type(global.value));
+            write_closing(text);
         }
     }
 }
 
 // Writes the index of a segment's table or memory, where it is not 0.
-fn write_number_part(text: &mut String, n: u32) -> Result<(), AllocError>
-    ensures { Writes text.old text.new result (number_part n) }
+fn write_number_part(text: &mut TextBuilder, n: u32)
+    ensures { Writes text.old text.new (number_part n) }
 {
-    if n == 0 { Ok(()) } else { write_count(text, n) }
+    if n != 0 {
+        write_count(text, n);
+    }
 }
 
-fn write_offset(text: &mut String, body: &Body) -> Result<(), AllocError>
+fn write_offset(text: &mut TextBuilder, body: &Body)
     requires { IsBodyWithin body.now }
-    ensures { Writes text.old text.new result (offset body.now) }
+    ensures { Writes text.old text.new (offset body.now) }
 {
-    write_opening(text, Gap::Space, Keyword::Offset)?;
-    write_code(text, Gap::Space, MAX_NESTING, body)?;
-    write_closing(text)
+    write_opening(text, Gap::Space, Keyword::Offset);
+    write_code(text, Gap::Space, MAX_NESTING, body);
+    write_closing(text);
 }
 
 // ---- fields
 
 // Writes the start of a field, on a line of its own.
-fn write_beginning(text: &mut String, keyword: Keyword) -> Result<(), AllocError>
-    ensures { Writes text.old text.new result (begins keyword) }
+fn write_beginning(text: &mut TextBuilder, keyword: Keyword)
+    ensures { Writes text.old text.new (begins keyword) }
 {
-    write_opening(text, Gap::Line(1), keyword)
+    write_opening(text, Gap::Line(1), keyword);
 }
 
 /// Writes a type (Core 1.0, 6.6.2).
@@ -103,61 +99,42 @@ impl Part for FuncType {
 
     ghost pieces = { type_field };
 
-    fn write(text: &mut String, field: &FuncType) -> Result<(), AllocError> {
-        write_beginning(text, Keyword::FuncType)?;
-        write_opening(text, Gap::Space, Keyword::Func)?;
-        write_type_group(text, Keyword::Param, field.parameters.as_slice())?;
-        write_type_group(text, Keyword::Result, field.results.as_slice())?;
-        write_closing(text)?;
-        write_closing(text)
+    fn write(text: &mut TextBuilder, field: &FuncType) {
+        write_beginning(text, Keyword::FuncType);
+        write_opening(text, Gap::Space, Keyword::Func);
+        write_type_group(text, Keyword::Param, field.parameters.as_slice());
+        write_type_group(text, Keyword::Result, field.results.as_slice());
+        write_closing(text);
+        write_closing(text);
     }
 }
 
-fn write_import_description(
-    text: &mut String,
-    description: ImportDescription,
-) -> Result<(), AllocError>
-    ensures { Writes text.old text.new result (import_description description) }
+fn write_import_description(text: &mut TextBuilder, description: ImportDescription)
+    ensures { Writes text.old text.new (import_description description) }
 {
     match description {
-        ImportDescription::Function(type_number) => write_imported_function(text, type_number),
-        ImportDescription::Table(limits) => write_imported_table(text, limits),
-        ImportDescription::Memory(limits) => write_imported_memory(text, limits),
-        ImportDescription::Global(global) => write_imported_global(text, global),
+        ImportDescription::Function(type_number) => {
+            write_opening(text, Gap::Space, Keyword::Func);
+            write_type_use(text, type_number);
+            write_closing(text);
+        }
+        ImportDescription::Table(limits) => {
+            write_opening(text, Gap::Space, Keyword::Table);
+            write_limits(text, limits);
+            write_keyword(text, Gap::Space, Keyword::Funcref);
+            write_closing(text);
+        }
+        ImportDescription::Memory(limits) => {
+            write_opening(text, Gap::Space, Keyword::Memory);
+            write_limits(text, limits);
+            write_closing(text);
+        }
+        ImportDescription::Global(global) => {
+            write_opening(text, Gap::Space, Keyword::Global);
+            write_global_type(text, global);
+            write_closing(text);
+        }
     }
-}
-
-fn write_imported_function(text: &mut String, type_number: u32) -> Result<(), AllocError>
-    ensures { Writes text.old text.new result (import_description (import.Function type_number)) }
-{
-    write_opening(text, Gap::Space, Keyword::Func)?;
-    write_type_use(text, type_number)?;
-    write_closing(text)
-}
-
-fn write_imported_table(text: &mut String, table: Limits) -> Result<(), AllocError>
-    ensures { Writes text.old text.new result (import_description (import.Table table)) }
-{
-    write_opening(text, Gap::Space, Keyword::Table)?;
-    write_limits(text, table)?;
-    write_keyword(text, Gap::Space, Keyword::Funcref)?;
-    write_closing(text)
-}
-
-fn write_imported_memory(text: &mut String, memory: Limits) -> Result<(), AllocError>
-    ensures { Writes text.old text.new result (import_description (import.Memory memory)) }
-{
-    write_opening(text, Gap::Space, Keyword::Memory)?;
-    write_limits(text, memory)?;
-    write_closing(text)
-}
-
-fn write_imported_global(text: &mut String, global: GlobalType) -> Result<(), AllocError>
-    ensures { Writes text.old text.new result (import_description (import.Global global)) }
-{
-    write_opening(text, Gap::Space, Keyword::Global)?;
-    write_global_type(text, global)?;
-    write_closing(text)
 }
 
 /// Writes an import (Core 1.0, 6.6.4).
@@ -166,12 +143,12 @@ impl Part for Import {
 
     ghost pieces = { import_field };
 
-    fn write(text: &mut String, field: &Import) -> Result<(), AllocError> {
-        write_beginning(text, Keyword::Import)?;
-        write_string(text, field.module.as_str().as_bytes())?;
-        write_string(text, field.name.as_str().as_bytes())?;
-        write_import_description(text, field.description)?;
-        write_closing(text)
+    fn write(text: &mut TextBuilder, field: &Import) {
+        write_beginning(text, Keyword::Import);
+        write_string(text, field.module.as_str().as_bytes());
+        write_string(text, field.name.as_str().as_bytes());
+        write_import_description(text, field.description);
+        write_closing(text);
     }
 }
 
@@ -183,12 +160,12 @@ impl Part for Function {
 
     ghost IsWithin = { λ f. IsBodyWithin f.body };
 
-    fn write(text: &mut String, field: &Function) -> Result<(), AllocError> {
-        write_beginning(text, Keyword::Func)?;
-        write_type_use(text, field.type_number)?;
-        write_type_group(text, Keyword::Local, field.locals.as_slice())?;
-        write_code(text, Gap::Line(2), MAX_NESTING, &field.body)?;
-        write_closing_line(text, 1)
+    fn write(text: &mut TextBuilder, field: &Function) {
+        write_beginning(text, Keyword::Func);
+        write_type_use(text, field.type_number);
+        write_type_group(text, Keyword::Local, field.locals.as_slice());
+        write_code(text, Gap::Line(2), MAX_NESTING, &field.body);
+        write_closing_line(text, 1);
     }
 }
 
@@ -201,11 +178,11 @@ impl Part for Table {
 
     ghost pieces = { table_field };
 
-    fn write(text: &mut String, field: &Limits) -> Result<(), AllocError> {
-        write_beginning(text, Keyword::Table)?;
-        write_limits(text, *field)?;
-        write_keyword(text, Gap::Space, Keyword::Funcref)?;
-        write_closing(text)
+    fn write(text: &mut TextBuilder, field: &Limits) {
+        write_beginning(text, Keyword::Table);
+        write_limits(text, *field);
+        write_keyword(text, Gap::Space, Keyword::Funcref);
+        write_closing(text);
     }
 }
 
@@ -218,10 +195,10 @@ impl Part for Memory {
 
     ghost pieces = { memory_field };
 
-    fn write(text: &mut String, field: &Limits) -> Result<(), AllocError> {
-        write_beginning(text, Keyword::Memory)?;
-        write_limits(text, *field)?;
-        write_closing(text)
+    fn write(text: &mut TextBuilder, field: &Limits) {
+        write_beginning(text, Keyword::Memory);
+        write_limits(text, *field);
+        write_closing(text);
     }
 }
 
@@ -233,19 +210,16 @@ impl Part for Global {
 
     ghost IsWithin = { λ g. IsBodyWithin g.initial };
 
-    fn write(text: &mut String, field: &Global) -> Result<(), AllocError> {
-        write_beginning(text, Keyword::Global)?;
-        write_global_type(text, field.global_type)?;
-        write_code(text, Gap::Space, MAX_NESTING, &field.initial)?;
-        write_closing(text)
+    fn write(text: &mut TextBuilder, field: &Global) {
+        write_beginning(text, Keyword::Global);
+        write_global_type(text, field.global_type);
+        write_code(text, Gap::Space, MAX_NESTING, &field.initial);
+        write_closing(text);
     }
 }
 
-fn write_export_description(
-    text: &mut String,
-    description: ExportDescription,
-) -> Result<(), AllocError>
-    ensures { Writes text.old text.new result (export_description description) }
+fn write_export_description(text: &mut TextBuilder, description: ExportDescription)
+    ensures { Writes text.old text.new (export_description description) }
 {
     match description {
         ExportDescription::Function(n) => write_number_in(text, Gap::Space, Keyword::Func, n),
@@ -261,21 +235,20 @@ impl Part for Export {
 
     ghost pieces = { export_field };
 
-    fn write(text: &mut String, field: &Export) -> Result<(), AllocError> {
-        write_beginning(text, Keyword::Export)?;
-        write_string(text, field.name.as_str().as_bytes())?;
-        write_export_description(text, field.description)?;
-        write_closing(text)
+    fn write(text: &mut TextBuilder, field: &Export) {
+        write_beginning(text, Keyword::Export);
+        write_string(text, field.name.as_str().as_bytes());
+        write_export_description(text, field.description);
+        write_closing(text);
     }
 }
 
 /// Writes the start function, or nothing where the module has none (Core 1.0, 6.6.10).
-pub fn write_start(text: &mut String, start: Option<u32>) -> Result<(), AllocError>
-    ensures { Writes text.old text.new result (start_field start) }
+pub fn write_start(text: &mut TextBuilder, start: Option<u32>)
+    ensures { Writes text.old text.new (start_field start) }
 {
-    match start {
-        None => Ok(()),
-        Some(n) => write_number_in(text, Gap::Line(1), Keyword::Start, n),
+    if let Some(n) = start {
+        write_number_in(text, Gap::Line(1), Keyword::Start, n);
     }
 }
 
@@ -288,12 +261,12 @@ impl Part for Element {
     ghost IsWithin = { λ e. IsBodyWithin e.offset };
 
     #[tactic(auto, using(crate::proofs::Codes::all_held))]
-    fn write(text: &mut String, field: &Element) -> Result<(), AllocError> {
-        write_beginning(text, Keyword::Elem)?;
-        write_number_part(text, field.table)?;
-        write_offset(text, &field.offset)?;
-        write_each::<u32>(text, field.functions.as_slice())?;
-        write_closing(text)
+    fn write(text: &mut TextBuilder, field: &Element) {
+        write_beginning(text, Keyword::Elem);
+        write_number_part(text, field.table);
+        write_offset(text, &field.offset);
+        write_each::<u32>(text, field.functions.as_slice());
+        write_closing(text);
     }
 }
 
@@ -305,11 +278,11 @@ impl Part for Data {
 
     ghost IsWithin = { λ d. IsBodyWithin d.offset };
 
-    fn write(text: &mut String, field: &Data) -> Result<(), AllocError> {
-        write_beginning(text, Keyword::Data)?;
-        write_number_part(text, field.memory)?;
-        write_offset(text, &field.offset)?;
-        write_string(text, field.bytes.as_slice())?;
-        write_closing(text)
+    fn write(text: &mut TextBuilder, field: &Data) {
+        write_beginning(text, Keyword::Data);
+        write_number_part(text, field.memory);
+        write_offset(text, &field.offset);
+        write_string(text, field.bytes.as_slice());
+        write_closing(text);
     }
 }

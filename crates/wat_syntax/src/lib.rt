@@ -1,7 +1,7 @@
 //! The syntax of the text format (Core 1.0, section 6): keywords, the lexer and the parser, and the printers of each field.
 //!
-//! `wat_asm` assembles and prints whole modules with these. What writes appends to a text, and fails only where an allocation
-//! fails.
+//! `wat_asm` assembles and prints whole modules with these. What writes puts pieces behind a text, which notes where an allocation
+//! failed.
 #![tactic(auto)]
 
 mod fault;

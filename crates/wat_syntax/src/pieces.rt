@@ -1,13 +1,14 @@
 //! Writers of the pieces of a printed text: tokens, each with the blanks before it.
 
-ghost use Rattle.std.specs.Prelude.{◌≡◌, ◌∷◌, ◌++◌, List, OnOk, string_bytes};
+ghost use Rattle.std.specs.Prelude.{◌≡◌, ◌∷◌, List};
 ghost use Rattle.std.specs.List.{AllByRecursion};
-ghost use Rattle.wat_syntax.specs.Quoted.{escape, escaped, quoted, needs_no_escape};
+ghost use Rattle.line_text.specs.TextBuilder.{Gains};
+ghost use Rattle.wat_syntax.specs.Quoted.{escaped, quoted, needs_no_escape};
 ghost use Rattle.wat_syntax.specs.inside.Writing.{Writes};
-ghost use Rattle.wat_syntax.specs.Pieces.{Piece, align_is, closes, closes_line, counts, each, gap_text, indent, offset_is, opens, quotes, says, signs};
+ghost use Rattle.wat_syntax.specs.Pieces.{Piece, closes, closes_line, counts, each, gap_text, indent, opens, quotes, says, signs};
 
 use crate::keyword::Keyword;
-use std::alloc::AllocError;
+use line_text::TextBuilder;
 
 /// The blanks before a token.
 #[derive(Clone, Copy)]
@@ -18,83 +19,70 @@ pub enum Gap {
     Line(u32),
 }
 
-fn write_indent(text: &mut String, level: u32) -> Result<(), AllocError>
-    ensures { OnOk result (string_bytes text.new ≡ string_bytes text.old ++ indent level) }
+fn write_indent(text: &mut TextBuilder, level: u32)
+    ensures { Gains text.old text.new (indent level) }
 {
     for _ in 0..level {
-        text.push_str("  ")?;
+        text.put("  ");
     }
-    Ok(())
 }
 
-fn write_gap(text: &mut String, gap: Gap) -> Result<(), AllocError>
-    ensures { OnOk result (string_bytes text.new ≡ string_bytes text.old ++ gap_text gap) }
+fn write_gap(text: &mut TextBuilder, gap: Gap)
+    ensures { Gains text.old text.new (gap_text gap) }
 {
     match gap {
-        Gap::Nothing => Ok(()),
-        Gap::Space => text.push_str(" "),
+        Gap::Nothing => {}
+        Gap::Space => text.put(" "),
         Gap::Line(level) => {
-            text.push_str("\n")?;
-            write_indent(text, level)
+            text.put("\n");
+            write_indent(text, level);
         }
     }
 }
 
 /// Writes these blanks, an opening parenthesis and a keyword.
 #[tactic(auto, unfolding(crate::specs::Pieces::text))]
-pub fn write_opening(text: &mut String, gap: Gap, keyword: Keyword) -> Result<(), AllocError>
-    ensures { Writes text.old text.new result (λ more. opens gap keyword ∷ more) }
+pub fn write_opening(text: &mut TextBuilder, gap: Gap, keyword: Keyword)
+    ensures { Writes text.old text.new (λ more. opens gap keyword ∷ more) }
 {
-    write_gap(text, gap)?;
-    text.push_str("(")?;
-    text.push_str(keyword.text())
+    write_gap(text, gap);
+    text.put("(");
+    text.put(keyword.text());
 }
 
 #[tactic(auto, unfolding(crate::specs::Pieces::text))]
-pub fn write_keyword(text: &mut String, gap: Gap, keyword: Keyword) -> Result<(), AllocError>
-    ensures { Writes text.old text.new result (λ more. says gap keyword ∷ more) }
+pub fn write_keyword(text: &mut TextBuilder, gap: Gap, keyword: Keyword)
+    ensures { Writes text.old text.new (λ more. says gap keyword ∷ more) }
 {
-    write_gap(text, gap)?;
-    text.push_str(keyword.text())
+    write_gap(text, gap);
+    text.put(keyword.text());
 }
 
 /// Writes an unsigned number, in decimal.
 #[tactic(auto, unfolding(crate::specs::Pieces::text))]
-pub fn write_count(text: &mut String, n: u32) -> Result<(), AllocError>
-    ensures { Writes text.old text.new result (λ more. counts n ∷ more) }
+pub fn write_count(text: &mut TextBuilder, n: u32)
+    ensures { Writes text.old text.new (λ more. counts n ∷ more) }
 {
-    write!(text, " {n}")
+    text.put(" ");
+    text.show(&n);
 }
 
 /// Writes a number in decimal, with a sign where it is below 0.
 #[tactic(auto, unfolding(crate::specs::Pieces::text))]
-pub fn write_i32(text: &mut String, z: i32) -> Result<(), AllocError>
-    ensures { Writes text.old text.new result (λ more. signs z ∷ more) }
+pub fn write_i32(text: &mut TextBuilder, z: i32)
+    ensures { Writes text.old text.new (λ more. signs z ∷ more) }
 {
-    write!(text, " {z}")
+    text.put(" ");
+    text.show(&z);
 }
 
 /// Writes a number in decimal, with a sign where it is below 0.
 #[tactic(auto, unfolding(crate::specs::Pieces::text))]
-pub fn write_i64(text: &mut String, z: i64) -> Result<(), AllocError>
-    ensures { Writes text.old text.new result (λ more. signs z ∷ more) }
+pub fn write_i64(text: &mut TextBuilder, z: i64)
+    ensures { Writes text.old text.new (λ more. signs z ∷ more) }
 {
-    write!(text, " {z}")
-}
-
-#[tactic(auto, unfolding(crate::specs::Pieces::text))]
-pub fn write_offset(text: &mut String, n: u32) -> Result<(), AllocError>
-    ensures { Writes text.old text.new result (λ more. offset_is n ∷ more) }
-{
-    write!(text, " offset={n}")
-}
-
-/// Writes an alignment, in bytes.
-#[tactic(auto, unfolding(crate::specs::Pieces::text))]
-pub fn write_alignment(text: &mut String, n: u32) -> Result<(), AllocError>
-    ensures { Writes text.old text.new result (λ more. align_is n ∷ more) }
-{
-    write!(text, " align={n}")
+    text.put(" ");
+    text.show(&z);
 }
 
 fn needs_no_escape(b: u8) -> bool
@@ -103,74 +91,62 @@ fn needs_no_escape(b: u8) -> bool
     b >= b' ' && b <= b'~' && b != b'"' && b != b'\\'
 }
 
-// Writes a backslash and two lower-case hexadecimal digits.
+// Writes a byte of a string, or a backslash and its two lower-case hexadecimal digits.
 #[tactic(auto, using(std::proofs::lemmas::Fmt::hex_byte))]
-fn write_escape(text: &mut String, b: u8) -> Result<(), AllocError>
-    ensures { OnOk result (string_bytes text.new ≡ string_bytes text.old ++ escape b) }
-{
-    write!(text, "\\{b:02x}")
-}
-
-fn write_escaped(text: &mut String, b: u8) -> Result<(), AllocError>
-    ensures { OnOk result (string_bytes text.new ≡ string_bytes text.old ++ escaped b) }
+fn write_escaped(text: &mut TextBuilder, b: u8)
+    ensures { Gains text.old text.new (escaped b) }
 {
     if needs_no_escape(b) {
-        text.push(char::from(b))
+        text.show(&char::from(b));
     } else {
-        write_escape(text, b)
+        text.show(&format_args!("\\{b:02x}"));
     }
 }
 
 /// Writes a string of these bytes.
 #[tactic(auto, unfolding(crate::specs::Pieces::text))]
-pub fn write_string(text: &mut String, bytes: &[u8]) -> Result<(), AllocError>
-    ensures { Writes text.old text.new result (λ more. quotes bytes.now ∷ more) }
+pub fn write_string(text: &mut TextBuilder, bytes: &[u8])
+    ensures { Writes text.old text.new (λ more. quotes bytes.now ∷ more) }
 {
-    text.push_str(" \"")?;
-    write_all_escaped(text, bytes)?;
-    text.push_str("\"")
+    text.put(" \"");
+    write_all_escaped(text, bytes);
+    text.put("\"");
 }
 
-fn write_all_escaped(text: &mut String, bytes: &[u8]) -> Result<(), AllocError>
-    ensures { OnOk result (string_bytes text.new ≡ string_bytes text.old ++ quoted bytes.now) }
+fn write_all_escaped(text: &mut TextBuilder, bytes: &[u8])
+    ensures { Gains text.old text.new (quoted bytes.now) }
 {
     for b in bytes {
-        write_escaped(text, *b)?;
+        write_escaped(text, *b);
     }
-    Ok(())
 }
 
 /// Writes a closing parenthesis.
 #[tactic(auto, unfolding(crate::specs::Pieces::text))]
-pub fn write_closing(text: &mut String) -> Result<(), AllocError>
-    ensures { Writes text.old text.new result (λ more. closes ∷ more) }
+pub fn write_closing(text: &mut TextBuilder)
+    ensures { Writes text.old text.new (λ more. closes ∷ more) }
 {
-    text.push_str(")")
+    text.put(")");
 }
 
 /// Writes a closing parenthesis on a line of its own, after two blanks for each level.
 #[tactic(auto, unfolding(crate::specs::Pieces::text))]
-pub fn write_closing_line(text: &mut String, level: u32) -> Result<(), AllocError>
-    ensures { Writes text.old text.new result (λ more. closes_line level ∷ more) }
+pub fn write_closing_line(text: &mut TextBuilder, level: u32)
+    ensures { Writes text.old text.new (λ more. closes_line level ∷ more) }
 {
-    text.push_str("\n")?;
-    write_indent(text, level)?;
-    text.push_str(")")
+    text.put("\n");
+    write_indent(text, level);
+    text.put(")");
 }
 
 /// Writes these blanks, and a keyword and a number in parentheses.
-pub fn write_number_in(
-    text: &mut String,
-    gap: Gap,
-    keyword: Keyword,
-    n: u32,
-) -> Result<(), AllocError>
-    ensures { Writes text.old text.new result
+pub fn write_number_in(text: &mut TextBuilder, gap: Gap, keyword: Keyword, n: u32)
+    ensures { Writes text.old text.new
         (λ more. opens gap keyword ∷ counts n ∷ closes ∷ more) }
 {
-    write_opening(text, gap, keyword)?;
-    write_count(text, n)?;
-    write_closing(text)
+    write_opening(text, gap, keyword);
+    write_count(text, n);
+    write_closing(text);
 }
 
 /// A part of a module that is printed as pieces of its own.
@@ -182,18 +158,17 @@ pub trait Part {
 
     ghost IsWithin: { Self.Of → Type 0 } = { λ _. Unit {0} };
 
-    fn write(text: &mut String, part: &Self::Of) -> Result<(), AllocError>
+    fn write(text: &mut TextBuilder, part: &Self::Of)
         requires { IsWithin part.now }
-        ensures { Writes text.old text.new result (pieces part.now) };
+        ensures { Writes text.old text.new (pieces part.now) };
 }
 
 /// Writes parts of one kind, one after another.
-pub fn write_each<P: Part>(text: &mut String, parts: &[P::Of]) -> Result<(), AllocError>
+pub fn write_each<P: Part>(text: &mut TextBuilder, parts: &[P::Of])
     requires { AllByRecursion P.IsWithin parts.now }
-    ensures { Writes text.old text.new result (each P.pieces parts.now) }
+    ensures { Writes text.old text.new (each P.pieces parts.now) }
 {
     for part in parts {
-        P::write(text, part)?;
+        P::write(text, part);
     }
-    Ok(())
 }

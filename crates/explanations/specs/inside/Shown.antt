@@ -1,7 +1,8 @@
 -- What is shown of a function's lines.
-use Rattle.std.specs.Prelude.{◌≡◌, ℕ, List, ◌++◌, Option, String, count_by, map}
+use Rattle.std.specs.Prelude.{◌≡◌, ℕ, List, ◌++◌, Option, count_by, map}
 use Rattle.std.specs.Borrow.{Bor}
-use Rattle.call_lines.specs.OutputLines.{Gains}
+use Rattle.line_text.specs.declared.text_builder.TextBuilder.{TextBuilder}
+use Rattle.line_text.specs.TextBuilder.{Gains}
 use Rattle.explanations.specs.Listing.{is_numbered, listed}
 use Rattle.explanations.specs.declared.listing.Shown.{Shown}
 
@@ -19,8 +20,8 @@ pub record IsCut (body part : List (Bor (List ℕ))) (first : ℕ) : Type 0 wher
 abbrev pub Cuts : List (Bor (List ℕ)) → Shown → Type 0
 Cuts body shown = IsCut body shown.lines.now shown.first
 
--- such lines are appended to a text
-pub record ListsPart {Z : Type 0} (old new : String Z) (marked : Option ℕ) (body : List (Bor (List ℕ))) : Type 0 where
+-- such lines are put behind a text
+pub record ListsPart (old new : TextBuilder) (marked : Option ℕ) (body : List (Bor (List ℕ))) : Type 0 where
   pub part : List (Bor (List ℕ))
   pub first : ℕ
   pub cut : IsCut body part first

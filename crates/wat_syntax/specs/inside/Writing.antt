@@ -1,12 +1,13 @@
 -- The contracts of the printer's functions.
-use Rattle.std.specs.Prelude.{◌≡◌, ℕ, List, ◌++◌, OnOk, Result, string_bytes}
-use Rattle.std.specs.declared.string.String.{String}
+use Rattle.std.specs.Prelude.{◌≡◌, ℕ, false, List, ◌++◌, string_bytes}
+use Rattle.line_text.specs.declared.text_builder.TextBuilder.{TextBuilder}
 use Rattle.wat_syntax.specs.Pieces.{Piece, text}
 
 -- the text `new` is `old` and then these pieces, whatever follows
 abbrev pub Adds : (old new : List ℕ) → (List Piece → List Piece) → Type 0
 Adds old new pieces = (more : List Piece) → new ++ text more ≡ old ++ text (pieces more)
 
--- a function that does not fail adds these pieces to a text
-abbrev pub Writes : {Z X E : Type 0} → (old new : String Z) → Result X E → (List Piece → List Piece) → Type 0
-Writes old new result pieces = OnOk result (Adds (string_bytes old) (string_bytes new) pieces)
+-- these pieces were put behind a text, unless it is cut
+abbrev pub Writes : (old new : TextBuilder) → (List Piece → List Piece) → Type 0
+Writes old new pieces =
+    new.is_cut ≡ false → (old.is_cut ≡ false) × Adds (string_bytes old.text) (string_bytes new.text) pieces

@@ -1,5 +1,7 @@
-use Rattle.std.proofs.Common.{◌+◌, ◌++◌, ◌∙◌, ap, get_or, string_bytes}
-use Rattle.call_lines.specs.OutputLines.{numbered_line}
+use Rattle.std.proofs.Common.{◌+◌, ◌++◌, ◌∙◌, ap, get_or, subst, take}
+use Rattle.line_text.proofs.Pieces.{gains_more}
+use Rattle.line_text.specs.TextBuilder.{Gains}
+use Rattle.call_lines.specs.OutputLines.{numbered_line, numbered_lines}
 use Rattle.plain_commands.proofs.NumberedLines.{numbered_more}
 use Rattle.plain_commands.proofs.ended.push_numbered.Goals as goal
 
@@ -7,8 +9,9 @@ pub loop-index-preserved : goal.loop-index-preserved
 loop-index-preserved c =
     let i = c.loop-index.index in
     let word = c.args.word.now in
-    let units = get_or c.args.units.now i 0 in
-    c.in_ok-push_number.ensures
-    ∙ ap (λ n. string_bytes c.loop-index.text ++ numbered_line word (n + i) units) c.from.ensures
-    ∙ ap (λ text. text ++ numbered_line word (c.args.first + i) units) c.loop-index.invariant
-    ∙ numbered_more word c.args.first c.args.units.now (string_bytes c.args.text.now) i 0 c.loop-index-test.true
+    let first = c.args.first in
+    let all = c.args.units.now in
+    subst (Gains c.args.text.now c.push_number.new.text)
+    (ap (λ n. numbered_lines word first (take i all) ++ numbered_line word (n + i) (get_or all i 0)) c.from.ensures
+    ∙ numbered_more word first all i 0 c.loop-index-test.true)
+    (gains_more c.args.text.now c.loop-index.text c.push_number.new.text _ _ c.loop-index.invariant c.push_number.ensures)

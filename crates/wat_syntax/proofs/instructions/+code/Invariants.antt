@@ -1,4 +1,4 @@
-use Rattle.std.proofs.Common.{◌≡◌, ◌+◌, ◌*◌, ◌++◌, List, drop, string_bytes}
+use Rattle.std.proofs.Common.{◌≡◌, ◌+◌, ◌*◌, ◌++◌, false, List, drop, string_bytes}
 use Rattle.wasm_ast.specs.View.{code_of}
 use Rattle.wasm_ast.specs.Limits.{IsCodeWithin}
 use Rattle.wat_syntax.specs.Pieces.{Piece, text}
@@ -21,6 +21,7 @@ decreases-write_instr l = 2 * goal.size-write_instr l
 abbrev pub invariant-write_code-loop-instr : goal.invariant-write_code-loop-instr
 invariant-write_code-loop-instr l = record {
   within : IsCodeWithin l.levels (code_of (drop l.instr-index l.instr-items));
-  written : (more : List Piece) → string_bytes l.text ++ text (code l.gap (code_of (drop l.instr-index l.instr-items)) more)
-      ≡ string_bytes l.fn.text ++ text (code l.gap (code_of l.instr-items) more);
+  written : l.text.is_cut ≡ false → (l.fn.text.is_cut ≡ false)
+      × ((more : List Piece) → string_bytes l.text.text ++ text (code l.gap (code_of (drop l.instr-index l.instr-items)) more)
+      ≡ string_bytes l.fn.text.text ++ text (code l.gap (code_of l.instr-items) more));
 }

@@ -70,9 +70,11 @@ require_kit() {
     fi
 }
 
-# Succeeds where rt keeps what it has proved for later runs: beside the kit, for the owner of that folder.
+# Succeeds where rt keeps what it has proved for later runs: beside the kit, for the owner of that folder. A kit that does so has the
+# command `rt ci --anew`, which takes nothing of it.
 keeps_proofs() {
     local kept
+    [[ $(rt help 2>&1) == *--anew* ]] || return 1
     kept=$(dirname "$(dirname "$(rt doc)")")/rattle-kept
     mkdir -p "$kept" 2>/dev/null && [ -O "$kept" ]
 }
@@ -96,7 +98,8 @@ prove_copy() {
 # Proves all that the program stands on, and builds it in the folder $1/whole.
 #
 # A run of rt reckons with more memory than its checks take, and so with few at a time. Where RT_JOBS is set it does not, but then each
-# check has one processor. So there are two runs: four checks side by side, and then pregel itself, whose check gets two processors.
+# check has one processor. So there are two runs where rt keeps what the first has proved: four checks side by side, and then pregel
+# itself, whose check gets two processors. Two checks side by side fit by its own reckoning too.
 prove_in_stages() {
     local job
     # (each job in a process group of its own, which ends with all that it has started)
@@ -104,9 +107,13 @@ prove_in_stages() {
     trap 'for job in $(jobs -p); do kill -- "-$job" 2>/dev/null || true; done; wait; exit 143' TERM
     if [ "$(free_memory)" -lt 20 ]; then
         export RT_JOBS=${RT_JOBS:-$(checks_that_fit)}
-    elif [ -z "${RT_JOBS:-}" ] && [ "$(nproc)" -ge 4 ] && keeps_proofs; then
-        RT_JOBS=$(checks_that_fit) prove_copy "$1/below" $(crates_below pregel | grep -vx pregel) &
-        wait $! || return
+    elif [ -z "${RT_JOBS:-}" ] && [ "$(nproc)" -ge 4 ]; then
+        if keeps_proofs; then
+            RT_JOBS=$(checks_that_fit) prove_copy "$1/below" $(crates_below pregel | grep -vx pregel) &
+            wait $! || return
+        else
+            export RT_JOBS=$(checks_that_fit)
+        fi
     fi
     prove_copy "$1/whole" pregel &
     wait $!

@@ -2,12 +2,11 @@
 
 use crate::modules::module_of;
 use crate::{
-    binary, calls, checkpoints, copies, costs, graphs, host_functions, inboxes, inputs, jobs,
-    leb_numbers, limits, numeric, profile, samples, saves, texts, validation, widths,
+    binary, calls, copies, costs, graphs, host_functions, inboxes, inputs, leb_numbers, limits,
+    numeric, profile, samples, texts, validation, widths,
 };
 use anyhow::Result;
 use bounded_profile::ProfileFault;
-use checkpoint::Device;
 use conformance_cases::{Answers, CaseFiles, Line, is_case, named, show_texts, spelled};
 use cost::CostFault;
 use std::alloc::Global;
@@ -16,7 +15,7 @@ use validate::ValidFault;
 use wasm_ast::Module;
 
 /// The files. A folder stands for all of its files that are not listed.
-const FILES: [&str; 33] = [
+const FILES: [&str; 30] = [
     // values, and copies of the syntax
     "wasm_ast/numeric.txt",
     "wasm_ast/widths.txt",
@@ -52,14 +51,10 @@ const FILES: [&str; 33] = [
     "inbox/inboxes.txt",
     "inbox/inboxes-by-part.txt",
     "sources/inputs.txt",
-    // jobs on one machine, their states as bytes, and where these are kept
-    "superstep/jobs.txt",
-    "checkpoint/checkpoints.txt",
-    "checkpoint/keeps.txt",
 ];
 
 /// Shows the cases of all files.
-pub fn show(rt: &(impl CaseFiles + Device + Print + AllocGlobal + Threads + Sync)) -> Result<()> {
+pub fn show(rt: &(impl CaseFiles + Print + AllocGlobal + Threads + Sync)) -> Result<()> {
     for file in FILES {
         show_file(rt, file)?;
     }
@@ -67,13 +62,13 @@ pub fn show(rt: &(impl CaseFiles + Device + Print + AllocGlobal + Threads + Sync
 }
 
 fn show_file(
-    rt: &(impl CaseFiles + Device + Print + AllocGlobal + Threads + Sync),
+    rt: &(impl CaseFiles + Print + AllocGlobal + Threads + Sync),
     file: &'static str,
 ) -> Result<()> {
     match file {
         "wasm_decode" => binary::show(rt),
         "interp" => calls::show(rt),
-        "inbox/inboxes-by-part.txt" | "superstep/jobs.txt" => show_in_threads(rt, file),
+        "inbox/inboxes-by-part.txt" => show_in_threads(rt, file),
         _ => show_texts(rt, file, &FileAnswers { rt, file }),
     }
 }
@@ -86,24 +81,20 @@ fn show_in_threads(
     let text = rt.text_of(file)?;
     for line in text.lines() {
         if is_case(line) {
-            show_case_in_threads(rt, file, line)?;
+            show_case_in_threads(rt, line)?;
         }
     }
     Ok(())
 }
 
 fn show_case_in_threads(
-    rt: &(impl CaseFiles + Print + AllocGlobal + Threads + Sync),
-    file: &'static str,
+    rt: &(impl Print + AllocGlobal + Threads + Sync),
     line: &str,
 ) -> Result<()> {
     let (name, case) = named(line);
     let case = spelled(rt.alloc(), case)?;
     let mut answer = Line::new(rt.alloc());
-    match file {
-        "superstep/jobs.txt" => jobs::answer(rt, case.as_str(), &mut answer),
-        _ => inboxes::by_part::answer(rt, rt.alloc(), case.as_str(), &mut answer),
-    }
+    inboxes::by_part::answer(rt, rt.alloc(), case.as_str(), &mut answer);
     println!(rt; "{name}: {}", answer.finish()?)?;
     Ok(())
 }
@@ -115,13 +106,12 @@ struct FileAnswers<'a, R> {
     file: &'static str,
 }
 
-impl<R: CaseFiles + Device + AllocGlobal> Answers for FileAnswers<'_, R> {
+impl<R: CaseFiles + AllocGlobal> Answers for FileAnswers<'_, R> {
     fn tell(&self, case: &str, line: &mut Line) {
         let (rt, alloc) = (self.rt, self.rt.alloc());
         match self.file {
             "wasm_ast/copies.txt" => copies::answer(rt, case, line),
             "graph/parts.txt" => graphs::parts::answer(rt, case, line),
-            "checkpoint/keeps.txt" => saves::answer(rt, case, line),
             file => answer(alloc, file, case, line),
         }
     }
@@ -143,7 +133,6 @@ fn answer(alloc: Global, file: &str, text: &str, line: &mut Line) {
         "graph/fields.txt" => graphs::fields::answer(text, line),
         "inbox/inboxes.txt" => inboxes::answer(alloc, text, line),
         "sources/inputs.txt" => inputs::answer(alloc, text, line),
-        "checkpoint/checkpoints.txt" => checkpoints::answer(alloc, text, line),
         _ => answer_of_module(alloc, file, text, line),
     }
 }

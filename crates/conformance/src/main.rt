@@ -1,5 +1,5 @@
-//! The cases of the public functions on numbers, modules, compute calls, graphs, inboxes, jobs on one machine and
-//! checkpoints. Each line of a file of cases in `data/` prints one line, which `stdout` holds beforehand.
+//! The cases of the public functions on numbers, modules, compute calls, graphs and inboxes. Each line of a file of cases in
+//! `data/` prints one line, which `stdout` holds beforehand.
 //!
 //! With the words `FILE FIRST STEP` the program damages the module in FILE instead, in each way at the places FIRST, FIRST
 //! + STEP and so on, and prints what becomes of it.
@@ -8,21 +8,18 @@
 mod answers;
 mod binary;
 mod calls;
-mod checkpoints;
 mod copies;
 mod costs;
 mod graphs;
 mod host_functions;
 mod inboxes;
 mod inputs;
-mod jobs;
 mod leb_numbers;
 mod limits;
 mod modules;
 mod numeric;
 mod profile;
 mod samples;
-mod saves;
 mod texts;
 mod validation;
 mod widths;

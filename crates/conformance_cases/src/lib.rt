@@ -2,13 +2,11 @@
 #![tactic(auto)]
 
 mod case_files;
-mod jobs;
 mod line;
 mod showing;
 mod spelling;
 
 pub use case_files::CaseFiles;
-pub use jobs::{job_in, tell_fault};
 pub use line::Line;
 pub use showing::{Answers, show_texts};
 pub use spelling::{bytes, halves, is_case, named, push_digits, spelled};

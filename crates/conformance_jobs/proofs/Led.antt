@@ -1,7 +1,7 @@
 -- A hub of some workers.
 use Rattle.std.proofs.Common.{◌≡◌, ◌<◌, ℕ, Option, Some, None, subst, sym}
 use Rattle.std.specs.Global.{Vec}
-use Rattle.workers.specs.Coordinator.{IsNewOn, staff_on}
+use Rattle.coordinator.specs.Coordinator.{IsNewOn, staff_on}
 use Rattle.hub_ends.specs.declared.coordinator_ends.CoordinatorEnds.{CoordinatorEnds}
 use Rattle.hub_ends.specs.declared.pass.TickPass.{TickPass}
 use Rattle.hub_ends.specs.declared.pass.WorkerPass.{WorkerPass}

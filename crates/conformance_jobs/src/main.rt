@@ -1,9 +1,14 @@
-//! The cases of the public functions on jobs that lose workers, and of sessions. Each line of a file of cases in `data/` prints
-//! one line, which `stdout` holds beforehand.
+//! The cases of the public functions on jobs, checkpoints, jobs that lose workers, and sessions. Each line of a file of cases in
+//! `data/` prints one line, which `stdout` holds beforehand.
 #![tactic(auto)]
 
+mod answers;
+mod checkpoints;
+mod plain_jobs;
+mod saves;
 mod sessions;
 mod simulations;
+mod spelled_jobs;
 mod threads;
 
 use anyhow::Result;
@@ -19,7 +24,6 @@ fn main(rt: HostRuntime) -> Result<()> {
 fn show(
     rt: &(impl CaseFiles + Device + Print + AllocGlobal + Threads + Wait + Sync),
 ) -> Result<()> {
-    simulations::show(rt)?;
-    threads::show(rt)?;
+    answers::show(rt)?;
     sessions::show(rt)
 }

@@ -18,11 +18,9 @@ mod doubles;
 pub mod faulty_keep;
 pub mod sweeps;
 
-use anyhow::Result;
+use crate::spelled_jobs::{job_in, tell_fault};
 use checkpoint::Device;
-use conformance_cases::{
-    CaseFiles, Line, bytes, halves, is_case, job_in, named, spelled, tell_fault,
-};
+use conformance_cases::{CaseFiles, Line, bytes, halves};
 use doubles::doubled;
 use faulty_keep::{FaultyKeep, Wrong};
 use plain_commands::{steps_of, trace_text};
@@ -35,31 +33,8 @@ use sweeps::{tell_drawn, tell_losses};
 // The answer to a case with a number that is none.
 const NO_NUMBER: &str = "no number";
 
-/// Prints a line for each case.
-pub fn show(rt: &(impl CaseFiles + Device + Print + AllocGlobal + Threads + Sync)) -> Result<()> {
-    let text = rt.text_of("rollback/simulations.txt")?;
-    for line in text.lines() {
-        if is_case(line) {
-            show_case(rt, line)?;
-        }
-    }
-    Ok(())
-}
-
-fn show_case(
-    rt: &(impl CaseFiles + Device + Print + AllocGlobal + Threads + Sync),
-    line: &str,
-) -> Result<()> {
-    let (name, case) = named(line);
-    let case = spelled(rt.alloc(), case)?;
-    let mut answer = Line::new(rt.alloc());
-    tell(rt, case.as_str(), &mut answer);
-    println!(rt; "{name}: {}", answer.finish()?)?;
-    Ok(())
-}
-
-// Writes the answer to a case.
-fn tell(
+/// Writes the answer to a case.
+pub fn answer(
     rt: &(impl CaseFiles + Device + AllocGlobal + Threads + Sync),
     case: &str,
     line: &mut Line,

@@ -19,10 +19,10 @@ pub mod gates;
 
 use crate::simulations::faulty_keep::{FaultyKeep, Wrong};
 use crate::simulations::sweeps::are_alike;
-use anyhow::Result;
+use crate::spelled_jobs::{job_in, tell_fault};
 use book::Report;
 use checkpoint::{Device, Keep, MemoryKeep};
-use conformance_cases::{CaseFiles, Line, halves, is_case, job_in, named, spelled, tell_fault};
+use conformance_cases::{CaseFiles, Line, halves};
 use gates::{LateGate, Plan, PlannedGate, WatchedGate};
 use plain_run::one_machine;
 use run_views::{Loss, LossGate};
@@ -35,33 +35,8 @@ use workers::{Gate, NoLoss, run_in_threads};
 // How many calls of a device fail in turn.
 const CALLS: u64 = 4;
 
-/// Prints a line for each case.
-pub fn show<R: CaseFiles + Device + Print + AllocGlobal + Threads + Wait + Sync>(
-    rt: &R,
-) -> Result<()> {
-    let text = rt.text_of("workers/threads.txt")?;
-    for line in text.lines() {
-        if is_case(line) {
-            show_case(rt, line)?;
-        }
-    }
-    Ok(())
-}
-
-fn show_case<R: CaseFiles + Device + Print + AllocGlobal + Threads + Wait + Sync>(
-    rt: &R,
-    line: &str,
-) -> Result<()> {
-    let (name, case) = named(line);
-    let case = spelled(rt.alloc(), case)?;
-    let mut answer = Line::new(rt.alloc());
-    tell(rt, case.as_str(), &mut answer);
-    println!(rt; "{name}: {}", answer.finish()?)?;
-    Ok(())
-}
-
-// Writes the answer to a case.
-fn tell<R: CaseFiles + Device + AllocGlobal + Threads + Wait + Sync>(
+/// Writes the answer to a case.
+pub fn answer<R: CaseFiles + Device + AllocGlobal + Threads + Wait + Sync>(
     rt: &R,
     case: &str,
     line: &mut Line,

@@ -5,10 +5,12 @@ mod coordinator_ends;
 mod hub;
 mod message;
 mod pass;
+mod receipts;
 mod verdict;
 
 pub use coordinator_ends::CoordinatorEnds;
 pub use hub::{Rows, connect, new_rows};
 pub use message::{Message, Sender};
 pub use pass::{TickPass, TickReceipt, WorkerPass, WorkerReceipt};
+pub use receipts::Receipts;
 pub use verdict::{Verdict, VerdictReader, VerdictSender};

@@ -6,15 +6,14 @@ ghost use Rattle.std.specs.Process.{exit_status};
 
 mod failure_recorder;
 mod program;
-mod progress_line;
 
 use crate::failure_recorder::FailureRecorder;
 use crate::program::execute;
-use crate::progress_line::ProgressLine;
 use checkpoint::{Device, Folder};
 use clap::error::ErrorKind;
 use command_line::options;
 use requests::Options;
+use run_views::ProgressLine;
 use session::ServeFault;
 use sources::{CommandFault, System, SystemFiles};
 use std::io::IsTerminal;

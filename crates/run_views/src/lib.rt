@@ -2,9 +2,11 @@
 #![tactic(auto)]
 
 mod loss;
+mod progress_line;
 mod view;
 mod warnings;
 
 pub use loss::{Loss, LossGate};
+pub use progress_line::ProgressLine;
 pub use view::{NoView, RunGate, View};
 pub use warnings::{warn_of_missed, warn_of_run};

@@ -4,7 +4,7 @@ use Rattle.std.specs.declared.thread.PromisedHandle.{PromisedHandle}
 use Rattle.hub_ends.specs.Hub.{IsSettled, IsTickerSettled, channels_of, handed, received, staff}
 use Rattle.channels.specs.Orders.{at, tasks_in}
 use Rattle.worker_loops.specs.Counted.{JoinsAfterLoss}
-use Rattle.worker_threads.specs.declared.audit.Receipts.{Receipts}
+use Rattle.hub_ends.specs.declared.receipts.Receipts.{Receipts}
 use Rattle.hub_ends.specs.declared.coordinator_ends.CoordinatorEnds.{CoordinatorEnds}
 use Rattle.worker_threads.specs.declared.thread_promises.HubThreads.{HubThreads}
 use Rattle.worker_threads.specs.declared.thread_promises.TickerPromise.{TickerPromise}

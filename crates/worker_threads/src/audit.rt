@@ -8,25 +8,10 @@ ghost use Rattle.worker_threads.specs.inside.Epochs.{AreSteady, IsSteadyHub};
 ghost use Rattle.worker_threads.specs.inside.Joins.{AreJoined, AreLinked, line_of};
 
 use crate::thread_promises::{HubThreads, WorkerThread};
-use hub_ends::{CoordinatorEnds, TickReceipt, VerdictSender, WorkerReceipt};
+use hub_ends::{CoordinatorEnds, Receipts, VerdictSender, WorkerReceipt};
 use std::thread::Threads;
 use superstep::{JobFault, Origin};
 use worker_loops::WorkerEnd;
-
-/// The receipts of all senders to the coordinator.
-pub struct Receipts<J: Origin> {
-    pub ticker: TickReceipt<J>,
-    pub workers: Vec<WorkerReceipt<J>>,
-}
-
-impl<J: Origin> Drop for Receipts<J> {
-    fn drop(self) {
-        let Receipts {
-            ticker: _,
-            workers: _,
-        } = self;
-    }
-}
 
 // Joins the thread of the next worker, and compares its receipt, and what it heard of its losses.
 fn settle_one<J: Origin, R: Threads>(

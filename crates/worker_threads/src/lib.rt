@@ -5,6 +5,6 @@ mod audit;
 mod spawning;
 mod thread_promises;
 
-pub use audit::{Receipts, settle_all};
+pub use audit::settle_all;
 pub use spawning::spawn_all;
 pub use thread_promises::{HubThreads, TickThread, TickerPromise, WorkerPromise, WorkerThread};

@@ -25,7 +25,7 @@ use Rattle.worker_threads.specs.Threads.{AreSettled, IsSettledHub}
 use Rattle.worker_loops.specs.inside.Epochs.{may_renew, renews}
 use Rattle.worker_threads.specs.inside.Epochs.{AreSteady, IsSteadyHub}
 use Rattle.event_loop.specs.inside.Told.{ToldFrom}
-use Rattle.worker_threads.specs.declared.audit.Receipts.{Receipts}
+use Rattle.hub_ends.specs.declared.receipts.Receipts.{Receipts}
 use Rattle.hub_ends.specs.declared.coordinator_ends.CoordinatorEnds.{CoordinatorEnds}
 use Rattle.hub_ends.specs.declared.pass.WorkerReceipt.{WorkerReceipt}
 use Rattle.event_loop.proofs.Ending.{answers_report}

@@ -15,7 +15,7 @@ use Rattle.worker_loops.specs.Numbers.{stamps_in}
 use Rattle.workers.specs.Charges.{AreCharged, HasHandedIn}
 use Rattle.worker_threads.specs.Threads.{AreSettled, HasSettled, IsSettledHub}
 use Rattle.event_loop.specs.Units.{cut, units_by, units_of}
-use Rattle.worker_threads.specs.declared.audit.Receipts.{Receipts}
+use Rattle.hub_ends.specs.declared.receipts.Receipts.{Receipts}
 use Rattle.hub_ends.specs.declared.coordinator_ends.CoordinatorEnds.{CoordinatorEnds}
 use Rattle.hub_ends.specs.declared.message.Message.{Message}
 use Rattle.hub_ends.specs.declared.message.Message.TheVariants as message

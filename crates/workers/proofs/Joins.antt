@@ -22,7 +22,7 @@ use Rattle.worker_threads.specs.Threads.{AreSettled, IsSettledHub}
 use Rattle.hub_ends.specs.Verdicts.{told_to}
 use Rattle.worker_threads.specs.inside.Joins.{AreJoined}
 use Rattle.event_loop.specs.inside.Told.{ToldFrom}
-use Rattle.worker_threads.specs.declared.audit.Receipts.{Receipts}
+use Rattle.hub_ends.specs.declared.receipts.Receipts.{Receipts}
 use Rattle.hub_ends.specs.declared.coordinator_ends.CoordinatorEnds.{CoordinatorEnds}
 use Rattle.hub_ends.specs.declared.message.Message.{Message}
 use Rattle.hub_ends.specs.declared.message.Message.TheVariants as message

@@ -4,7 +4,7 @@ use Rattle.book.specs.declared.report.Report.{Report}
 use Rattle.hub_ends.specs.Passes.{handed_in_by}
 use Rattle.worker_loops.specs.Numbers.{stamps_in}
 use Rattle.event_loop.specs.Units.{cut, units_by}
-use Rattle.worker_threads.specs.declared.audit.Receipts.{Receipts}
+use Rattle.hub_ends.specs.declared.receipts.Receipts.{Receipts}
 use Rattle.hub_ends.specs.declared.pass.WorkerReceipt.{WorkerReceipt}
 
 module _ {J : Type 0} where

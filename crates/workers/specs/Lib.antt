@@ -1,4 +1,4 @@
--- What a reader has to believe, in this order, behind the definitions of `event_loop` and `worker_threads`: the units of workers by their
--- receipts, and the coordinator of a job.
+-- What a reader has to believe, in this order, behind the definitions of `coordinator` and `worker_threads`: the units of workers by
+-- their receipts, and what the coordinator has after a job.
 pub mod Charges
-pub mod Coordinator
+pub mod Settled

@@ -1,13 +1,10 @@
 //! Jobs in threads: a coordinator, workers that can be lost, and a ticker.
 #![tactic(auto)]
 
-mod coordinator;
-mod hub;
 mod run;
 mod threads;
 
-pub use coordinator::Coordinator;
-pub use hub::Hub;
+pub use coordinator::{Coordinator, Hub};
 pub use hub_ends::{Message, Sender, TickPass, TickReceipt, WorkerPass, WorkerReceipt};
 pub use run::{resume_job, run_job};
 pub use threads::{resume_in_threads, run_in_threads};

@@ -7,7 +7,8 @@ ghost use Rattle.book.specs.Saving.{HasLeft, KeepsFor};
 ghost use Rattle.checkpoint.specs.Keep.{LoadsNothingElse};
 ghost use Rattle.book.specs.Calm.{NeverFails};
 ghost use Rattle.event_loop.specs.JobAnswers.{HasSpent, IsCalmReport, IsDriveFault, IsRunFault, EndedOver, EndedOverOwn, LoadsMadeAt, RanFromKeep, RanOn, RanOnOwn, WhereEnded, WhereRefused, WhereRun, has_ended};
-ghost use Rattle.workers.specs.Coordinator as lent;
+ghost use Rattle.coordinator.specs.Coordinator as lent;
+ghost use Rattle.workers.specs.Settled as settled;
 ghost use Rattle.hub_ends.specs.Hub.{HasByes, IsNewHubOf, IsSameHub, IsUnused, handed, received, staff};
 ghost use Rattle.event_loop.specs.Joining.{JoinedFrom, JoinedOn, JoinedOver};
 ghost use Rattle.worker_threads.specs.Threads.{AreThreadsOf, HasSettled, IsIdle};
@@ -15,18 +16,18 @@ ghost use Rattle.hub_ends.specs.Verdicts.{AreUntold, sends_on, told_on};
 ghost use Rattle.event_loop.specs.inside.EventLoop.{IsUnspent};
 ghost use Rattle.worker_threads.specs.inside.Joins.{AreLinked};
 
-use crate::coordinator::Coordinator;
 use book::{Book, Report};
 use checkpoint::{Device, Keep};
+use coordinator::Coordinator;
 use event_loop::drive;
-use hub_ends::{CoordinatorEnds, TickPass, VerdictSender, WorkerPass};
+use hub_ends::{CoordinatorEnds, Receipts, TickPass, VerdictSender, WorkerPass};
 use std::alloc::Global;
 use std::sync::Wait;
 use std::thread;
 use std::thread::Threads;
 use superstep::{Job, JobFault, Origin, Place};
 use worker_loops::Gate;
-use worker_threads::{HubThreads, Receipts, settle_all, spawn_all};
+use worker_threads::{HubThreads, settle_all, spawn_all};
 
 // Returns whether the job was driven to its end.
 fn was_driven(answer: &Result<Report, JobFault>) -> bool
@@ -214,12 +215,12 @@ pub fn run_job<
         (HasByes (lent.staff coordinator.new) (lent.received coordinator.new)) }
     ensures spent { IfOk result
         (HasSpent (lent.staff coordinator.new) (lent.received coordinator.new)) }
-    ensures handed_in { IfOk result (lent.HasHandedIn coordinator.new) }
+    ensures handed_in { IfOk result (settled.HasHandedIn coordinator.new) }
     // If the gate may lose nobody, the job ends in the epoch in which it began, so nothing is loaded.
     ensures epoch { G.loses gate.now ≡ false → IfOk result (λ report. report.epoch ≡ 0) }
     // All that the threads sent was received, once and in order, and what workers took is what they were sent.
-    ensures settled { WhereRun result (lent.IsSettled coordinator.new) }
-    ensures idle { WhereRefused result (lent.IsIdle coordinator.new) }
+    ensures settled { WhereRun result (settled.IsSettled coordinator.new) }
+    ensures idle { WhereRefused result (settled.IsIdle coordinator.new) }
     ensures refused { IfErr result IsRunFault }
     ensures hub { lent.IsSameHub coordinator.old coordinator.new }
 {
@@ -289,9 +290,9 @@ pub fn resume_job<
         (HasByes (lent.staff coordinator.new) (lent.received coordinator.new)) }
     ensures spent { IfOk result
         (HasSpent (lent.staff coordinator.new) (lent.received coordinator.new)) }
-    ensures handed_in { IfOk result (lent.HasHandedIn coordinator.new) }
-    ensures settled { WhereRun result (lent.IsSettled coordinator.new) }
-    ensures idle { WhereRefused result (lent.IsIdle coordinator.new) }
+    ensures handed_in { IfOk result (settled.HasHandedIn coordinator.new) }
+    ensures settled { WhereRun result (settled.IsSettled coordinator.new) }
+    ensures idle { WhereRefused result (settled.IsIdle coordinator.new) }
     ensures refused { IfErr result IsRunFault }
     ensures hub { lent.IsSameHub coordinator.old coordinator.new }
 {

@@ -8,10 +8,10 @@ ghost use Rattle.checkpoint.specs.Keep.{LoadsNothingElse};
 ghost use Rattle.book.specs.Calm.{NeverFails};
 ghost use Rattle.event_loop.specs.JobAnswers.{IsCalmReport, IsKeptRun, IsKeptRunOn, IsRunFault, LoadsMadeAt, WhereBegun};
 
-use crate::hub::Hub;
 use crate::run::{resume_job, run_job};
 use book::Report;
 use checkpoint::{Device, Keep};
+use coordinator::Hub;
 use std::alloc::Global;
 use std::marker::Brand;
 use std::sync::Wait;

@@ -4,10 +4,11 @@ ghost use Rattle.std.specs.Prelude.{◌≡◌, false};
 ghost use Rattle.book.specs.Saving.{KeepsFor};
 
 use super::tell_trace;
+use crate::spelled_jobs::tell_fault;
 use book::{Answer, Book, Event, JobStatus, Report};
 use checkpoint::{Device, Keep, MemoryKeep};
 use compute::run_task;
-use conformance_cases::{Line, tell_fault};
+use conformance_cases::Line;
 use interp::Scratch;
 use rollback::{Outcome, Step, StepAnswer, Trace};
 use std::alloc::{AllocError, Global};

@@ -1,7 +1,7 @@
 //! A job whose coordinator and worker are led by hand, one call after another in one thread.
 
 ghost use Rattle.std.specs.Prelude.{◌≡◌, ◌<◌};
-ghost use Rattle.workers.specs.Coordinator.{staff};
+ghost use Rattle.coordinator.specs.Coordinator.{staff};
 
 use book::{Book, Event, Report};
 use checkpoint::{Device, MemoryKeep};

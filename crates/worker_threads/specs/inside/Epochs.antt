@@ -1,7 +1,7 @@
 -- The receipts of a hub where nobody was lost, and so no new epoch began.
 use Rattle.std.specs.Prelude.{List, [], ◌∷◌}
 use Rattle.worker_loops.specs.inside.Epochs.{IsSteady, IsSteadyTicker}
-use Rattle.worker_threads.specs.declared.audit.Receipts.{Receipts}
+use Rattle.hub_ends.specs.declared.receipts.Receipts.{Receipts}
 use Rattle.hub_ends.specs.declared.pass.WorkerReceipt.{WorkerReceipt}
 
 module _ {J : Type 0} where

@@ -1,7 +1,7 @@
 use Rattle.std.proofs.Common.{◌≡◌, ◌++◌, [], ap, sym, ◌∙◌, arith}
 use Rattle.std.proofs.lemmas.List.{append-nil, nil_from_length}
 use Rattle.superstep.proofs.Runs.{is_row}
-use Rattle.conformance.proofs.jobs.by_hand.copies.Goals as goal
+use Rattle.conformance_jobs.proofs.plain_jobs.by_hand.copies.Goals as goal
 
 pub returns : goal.returns
 returns g c =

@@ -1,6 +1,6 @@
 use Rattle.std.proofs.Common.{[], ◌∷◌, ◌++◌, Some, ap, subst, sym, ◌∙◌}
-use Rattle.workers.specs.Coordinator.{IsSameOn, handed_on, received_on}
-use Rattle.workers.proofs.coordinator.Coordinator.take_event.Goals as goal
+use Rattle.coordinator.specs.Coordinator.{IsSameOn, handed_on, received_on}
+use Rattle.coordinator.proofs.coordinator.Coordinator.take_event.Goals as goal
 
 pub returns-in-Ok-clause-received : goal.returns-in-Ok-clause-received
 returns-in-Ok-clause-received g c = c.in-Ok.ensures.received ∙ sym (ap (λ ends. received_on ends ++ c.in-Ok.message ∷ []) c.in-Some.is)

@@ -1,9 +1,9 @@
 use Rattle.std.proofs.Common.{Some, subst, sym}
-use Rattle.workers.specs.Coordinator.{IsSameOn}
+use Rattle.coordinator.specs.Coordinator.{IsSameOn}
 use Rattle.event_loop.proofs.Ending.{calm_driven, ended_over, keeps_first, over_opened, unspent_opened, where_mapped}
 use Rattle.event_loop.proofs.Moving.{left_none}
 use Rattle.hub_ends.specs.Hub.{handed, received}
-use Rattle.workers.proofs.coordinator.Coordinator.drive.Goals as goal
+use Rattle.coordinator.proofs.coordinator.Coordinator.drive.Goals as goal
 
 pub drive-requires-clause-book : goal.drive-requires-clause-book
 drive-requires-clause-book g c _ _ = unspent_opened g.J.Origin.work c.args.book c.requires.book

@@ -1,6 +1,6 @@
 use Rattle.std.proofs.Common.{◌≡◌, ◌++◌, map}
 use Rattle.superstep.specs.inside.Running.{slice_of}
-use Rattle.conformance.proofs.jobs.by_hand.copies.Given as goal
+use Rattle.conformance_jobs.proofs.plain_jobs.by_hand.copies.Given as goal
 
 abbrev pub invariant-loop-slice : goal.invariant-loop-slice
 invariant-loop-slice g l = record {

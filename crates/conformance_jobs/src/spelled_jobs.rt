@@ -1,9 +1,7 @@
 //! Jobs, as cases spell them.
 
-use crate::case_files::CaseFiles;
-use crate::line::Line;
-use crate::spelling::{halves, spelled};
 use anyhow::{Result, bail};
+use conformance_cases::{CaseFiles, Line, halves, spelled};
 use graph::Graph;
 use sources::{Source, load};
 use std::num::ParseIntError;

@@ -11,19 +11,18 @@ ghost use Rattle.channels.specs.declared.order.Order.TheVariants.{Do};
 use book::{Book, Report};
 use checkpoint::{Device, Keep};
 use event_loop::drive;
-use hub_ends::{CoordinatorEnds, Message, TickReceipt, WorkerReceipt};
+use hub_ends::{CoordinatorEnds, Message, Receipts, TickReceipt, WorkerReceipt};
 use std::sync::Wait;
 use std::thread::Threads;
 use superstep::{JobFault, Origin, Task};
-use worker_threads::Receipts;
 
 /// The coordinator of a job. It sends tasks to workers and receives messages.
 ///
-/// It has its channel ends, except while `run_job` lends them to its threads. After a job has run to its end, it has
-/// the receipts of all senders.
+/// It has its channel ends, except while `workers::run_job` lends them to its threads. After a job has run to its end, it
+/// has the receipts of all senders.
 pub struct Coordinator<J: Origin> {
-    pub(crate) ends: Option<CoordinatorEnds<J>>,
-    pub(crate) receipts: Option<Receipts<J>>,
+    pub ends: Option<CoordinatorEnds<J>>,
+    pub receipts: Option<Receipts<J>>,
 }
 
 impl<J: Origin> Drop for Coordinator<J> {
@@ -36,7 +35,7 @@ impl<J: Origin> Drop for Coordinator<J> {
 }
 
 impl<J: Origin> Coordinator<J> {
-    ghost use Rattle.workers.specs.Coordinator.{IsReceiptOf, IsSameHub, IsSettledBy, IsStopped, IsTickReceiptOf, IsTickerSettledBy, IsUnused, handed, received, staff};
+    ghost use Rattle.coordinator.specs.Coordinator.{IsReceiptOf, IsSameHub, IsSettledBy, IsStopped, IsTickReceiptOf, IsTickerSettledBy, IsUnused, handed, received, staff};
     ghost use Rattle.hub_ends.specs.Hub.{HasByes};
     ghost use Rattle.channels.specs.Orders.{at, tasks_in, with_order};
     ghost use Rattle.hub_ends.specs.Passes.{handed_in_by, taken_by, ticked_by};

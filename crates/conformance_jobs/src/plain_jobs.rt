@@ -6,8 +6,9 @@
 
 mod by_hand;
 
+use crate::spelled_jobs::{job_in, tell_fault};
 use by_hand::tell_first_superstep;
-use conformance_cases::{CaseFiles, Line, job_in, tell_fault};
+use conformance_cases::{CaseFiles, Line};
 use plain_run::one_machine;
 use std::alloc::Global;
 use std::thread::Threads;

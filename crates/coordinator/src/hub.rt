@@ -14,7 +14,7 @@ use superstep::{Job, JobFault, Origin, Place};
 pub struct Hub;
 
 impl Hub {
-    ghost use Rattle.workers.specs.Coordinator.{HasRooms, IsNewHub};
+    ghost use Rattle.coordinator.specs.Coordinator.{HasRooms, IsNewHub};
 
     /// Opens the channels of a job. Returns all their ends: the coordinator, the pass of each worker, and that of the
     /// ticker. The type says of which job they are, and whether its Keep is honest.

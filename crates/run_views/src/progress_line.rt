@@ -1,6 +1,6 @@
 //! The line on standard error that shows how far a run has come.
 
-use run_views::View;
+use crate::view::View;
 use std::sync::atomic::{AtomicU64, Ordering};
 use std::time::{Clock, Instant};
 use superstep::JobEnd;

@@ -1,14 +1,10 @@
 -- What a coordinator received and sent. It has its ends, except while `run_job` lends them to its threads.
 use Rattle.std.specs.Prelude.{◌≡◌, ℕ, Option, Some, None, List, [], true}
 use Rattle.std.specs.Global.{Vec}
-use Rattle.book.specs.declared.report.Report.{Report}
 use Rattle.hub_ends.specs.Hub as hub
 use Rattle.channels.specs.Orders.{at, stops}
 use Rattle.channels.specs.Protocol.{has_bye}
-use Rattle.worker_threads.specs.Threads as threads
-use Rattle.workers.specs.Charges as charges
-use Rattle.workers.specs.declared.coordinator.Coordinator.{Coordinator}
-use Rattle.worker_threads.specs.declared.audit.Receipts.{Receipts}
+use Rattle.coordinator.specs.declared.coordinator.Coordinator.{Coordinator}
 use Rattle.hub_ends.specs.declared.coordinator_ends.CoordinatorEnds.{CoordinatorEnds}
 use Rattle.hub_ends.specs.declared.message.Message.{Message}
 use Rattle.channels.specs.declared.order.Order.{Order}
@@ -47,14 +43,6 @@ module _ {J : Type 0} where
   abbrev pub HasRoomsOn : ℕ → Option (CoordinatorEnds J) → Type 0
   HasRoomsOn workers (Some ends) = hub.HasRooms workers (hub.channels_of ends)
   HasRoomsOn workers None = ⊥
-
-  abbrev pub IsIdleOn : Option (CoordinatorEnds J) → Type 0
-  IsIdleOn (Some ends) = threads.IsIdle ends
-  IsIdleOn None = ⊥
-
-  abbrev pub IsSettledOn : Option (CoordinatorEnds J) → Option (Receipts J) → Type 0
-  IsSettledOn (Some ends) receipts = threads.HasSettled ends receipts
-  IsSettledOn None receipts = ⊥
 
   abbrev pub IsReceiptOfOn : Option (CoordinatorEnds J) → WorkerReceipt J → Type 0
   IsReceiptOfOn (Some ends) receipt = hub.IsReceiptOn (hub.channels_of ends) receipt.worker receipt
@@ -117,16 +105,3 @@ module _ {J : Type 0} where
 
   abbrev pub IsTickerSettledBy : Coordinator J → TickReceipt J → Type 0
   IsTickerSettledBy coordinator receipt = IsTickerSettledByOn coordinator.ends receipt
-
-  -- nothing was received, and no task was sent
-  abbrev pub IsIdle : Coordinator J → Type 0
-  IsIdle coordinator = IsIdleOn coordinator.ends
-
-  -- It has the receipts of all senders. All that the ticker and the workers sent was received, once and in order, and
-  -- what workers took is what they were sent. A worker joins again only right after a loss that it reported.
-  abbrev pub IsSettled : Coordinator J → Type 0
-  IsSettled coordinator = IsSettledOn coordinator.ends coordinator.receipts
-
-  -- the units of each worker are the sum of those that it sent, stale ones too
-  abbrev pub HasHandedIn : Coordinator J → Report → Type 0
-  HasHandedIn coordinator report = charges.HasHandedIn coordinator.receipts report

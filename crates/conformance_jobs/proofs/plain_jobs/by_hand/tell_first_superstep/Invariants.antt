@@ -1,5 +1,5 @@
 use Rattle.std.proofs.Common.{false}
-use Rattle.conformance.proofs.jobs.by_hand.tell_first_superstep.Given as goal
+use Rattle.conformance_jobs.proofs.plain_jobs.by_hand.tell_first_superstep.Given as goal
 
 abbrev pub ghosts-state_of_copies : goal.ghosts-state_of_copies
 ghosts-state_of_copies g a = record {

@@ -95,22 +95,37 @@ prove_copy() {
     (cd "$copy" && keep_freed_memory && exec rt ci)
 }
 
+# Ends the jobs of this shell, each with all that it has started: each is in a process group of its own.
+end_jobs() {
+    local job
+    for job in $(jobs -p); do kill -- "-$job" 2>/dev/null || true; done
+    wait
+}
+
 # Proves all that the program stands on, and builds it in the folder $1/whole.
 #
 # A run of rt reckons with more memory than its checks take, and so with few at a time. Where RT_JOBS is set it does not, but then each
-# check has one processor. So there are two runs where rt keeps what the first has proved: four checks side by side, and then pregel
-# itself, whose check gets two processors. Two checks side by side fit by its own reckoning too.
+# check has one processor. So there are two stages where rt keeps what the first has proved: four checks side by side, and then pregel
+# itself, whose check gets two processors or more.
+#
+# A run begins with the crates that have most lines of code above them. The threads of workers have few lines for what their proofs take, so
+# it would come to them last, and what stands on them would wait. So the first stage is two runs, of which one has nothing else to do.
+# Where both come to a crate, one waits and takes what the other has proved.
 prove_in_stages() {
-    local job
-    # (each job in a process group of its own, which ends with all that it has started)
+    local beside
     set -m
-    trap 'for job in $(jobs -p); do kill -- "-$job" 2>/dev/null || true; done; wait; exit 143' TERM
+    trap 'end_jobs; exit 143' TERM
     if [ "$(free_memory)" -lt 20 ]; then
         export RT_JOBS=${RT_JOBS:-$(checks_that_fit)}
     elif [ -z "${RT_JOBS:-}" ] && [ "$(nproc)" -ge 4 ]; then
         if keeps_proofs; then
+            RT_JOBS=2 prove_copy "$1/threads" worker_threads &
+            beside=$!
             RT_JOBS=$(checks_that_fit) prove_copy "$1/below" $(crates_below pregel | grep -vx pregel) &
-            wait $! || return
+            if ! { wait $! && wait "$beside"; }; then
+                end_jobs
+                return 1
+            fi
         else
             export RT_JOBS=$(checks_that_fit)
         fi

@@ -10,7 +10,7 @@ use Rattle.std.specs.Prelude.{Err, IfErr, Ok, Result}
 use Rattle.call_lines.specs.OutputLines.{ended_lines, job_lines}
 use Rattle.book.specs.declared.report.Report.{Report}
 use Rattle.sources.specs.declared.fault.CommandFault.{CommandFault}
-use Rattle.event_loop.specs.JobAnswers.{IsRunFault}
+use Rattle.coordinator.specs.JobAnswers.{IsRunFault}
 use Rattle.console.specs.Jobs.{AreEndLines, AreJobLines, IsFaultOfRun}
 use Rattle.plain_commands.specs.Notes.{HasNoted, NotesFault}
 use Rattle.plain_commands.specs.declared.noting.RunNotes.{RunNotes}

@@ -6,7 +6,7 @@ use Rattle.superstep.specs.declared.ending.JobEnd.{JobEnd}
 use Rattle.superstep.specs.Job.{Meaning, Work}
 use Rattle.superstep.specs.PlainRun.{Answer, IsAnswer, units_at}
 use Rattle.book.specs.declared.report.Report.{Report}
-use Rattle.event_loop.specs.JobAnswers.{IsRunFault}
+use Rattle.coordinator.specs.JobAnswers.{IsRunFault}
 use Rattle.run_views.specs.declared.loss.Loss.{Loss}
 use Rattle.call_lines.specs.OutputLines.{ended_lines, job_lines}
 use Rattle.sources.specs.declared.fault.CommandFault.{CommandFault}

@@ -4,13 +4,13 @@ ghost use Rattle.std.specs.Prelude.{◌≡◌, ◌<◌, ◌+◌, ◌++◌, ◌�
 ghost use Rattle.job_state.specs.declared.fault.JobFault.TheVariants.{Closed};
 ghost use Rattle.checkpoint.specs.Keep.{LoadsNothingElse};
 ghost use Rattle.book.specs.Calm.{NeverFails};
-ghost use Rattle.event_loop.specs.JobAnswers.{HasSpent, IsCalmReport, IsDriveFault, IsLeftBy, IsOpened, EndedOver, EndedOverKeep, WhereEnded};
+ghost use Rattle.coordinator.specs.JobAnswers.{HasSpent, IsCalmReport, IsDriveFault, IsLeftBy, IsOpened, EndedOver, EndedOverKeep, WhereEnded};
 ghost use Rattle.hub_ends.specs.Messages.{sender_of};
 ghost use Rattle.channels.specs.declared.order.Order.TheVariants.{Do};
 
+use crate::event_loop::drive;
 use book::{Book, Report};
 use checkpoint::{Device, Keep};
-use event_loop::drive;
 use hub_ends::{CoordinatorEnds, Message, Receipts, TickReceipt, WorkerReceipt};
 use std::sync::Wait;
 use std::thread::Threads;

@@ -7,7 +7,7 @@ use Rattle.superstep.specs.Ending.{IsEndOf}
 use Rattle.superstep.specs.Job.{Work}
 use Rattle.superstep.specs.Tasks.{trusts}
 use Rattle.superstep.proofs.Trusting.{trusts_sure}
-use Rattle.event_loop.specs.JobAnswers.{IsCalmReport, IsRunFault}
+use Rattle.coordinator.specs.JobAnswers.{IsCalmReport, IsRunFault}
 use Rattle.threaded_session.specs.Runs.{IsThreadedEnd}
 
 pub threaded_end : (work : Work) (end : Result Report JobFault) → IfOk end (λ report. trusts true report.epoch ≡ true → IsEndOf work report.ended)

@@ -3,7 +3,7 @@ use Rattle.std.specs.Prelude.{◌≡◌, Result, Ok, Err}
 use Rattle.job_state.specs.declared.fault.JobFault.{JobFault}
 use Rattle.superstep.specs.Ending.{IsEndOf}
 use Rattle.superstep.specs.Job.{Work}
-use Rattle.event_loop.specs.JobAnswers.{IsCalmReport, IsRunFault}
+use Rattle.coordinator.specs.JobAnswers.{IsCalmReport, IsRunFault}
 use Rattle.book.specs.declared.report.Report.{Report}
 use Rattle.session.specs.Runs.{Runs}
 

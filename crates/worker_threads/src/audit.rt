@@ -73,11 +73,7 @@ pub fn settle_all<J: Origin, R: Threads>(
     ensures handed { handed ends.new ≡ handed ends.old }
     ensures hub { IsSameHub ends.old ends.new }
 {
-    let HubThreads {
-        ticker,
-        workers,
-        mut receipts,
-    } = spawned;
+    let (ticker, workers, mut receipts) = spawned.into_parts();
     let receipt = ticker.join(rt)?;
     let ticker = ends.settle_ticker(receipt);
     for thread in workers {

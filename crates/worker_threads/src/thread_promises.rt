@@ -9,7 +9,6 @@ use worker_loops::WorkerEnd;
 /// The promise of a worker's thread: it returns this worker's receipt, on the channels of this hub. The worker sent events for the
 /// tasks that it took alone. It joined again only right after a loss that it reported, and of which it heard on this line that it was
 /// counted. If its gate may lose nobody, it reported no loss and did not join.
-#[derive(Drop)]
 pub struct WorkerPromise<J: Origin> {
     pub worker: u32,
     pub hub: Snapshot<CoordinatorEnds<J>>,
@@ -18,13 +17,29 @@ pub struct WorkerPromise<J: Origin> {
     pub loses: bool,
 }
 
+impl<J: Origin> Drop for WorkerPromise<J> {
+    fn drop(self) {
+        let WorkerPromise {
+            worker: _,
+            hub: _,
+            line: _,
+            loses: _,
+        } = self;
+    }
+}
+
 /// The promise of the ticker's thread: it returns the ticker's receipt, on the channels of this hub. If its gate may lose nobody,
 /// no tick was sent.
-#[derive(Drop)]
 pub struct TickerPromise<J: Origin> {
     pub hub: Snapshot<CoordinatorEnds<J>>,
     /// Whether its gate may let a tick come.
     pub loses: bool,
+}
+
+impl<J: Origin> Drop for TickerPromise<J> {
+    fn drop(self) {
+        let TickerPromise { hub: _, loses: _ } = self;
+    }
 }
 
 impl<J: Origin> Promise<Result<WorkerEnd<J>, JobFault>> for WorkerPromise<J> {
@@ -56,11 +71,38 @@ pub type WorkerThread<J> = PromisedHandle<Result<WorkerEnd<J>, JobFault>, Worker
 pub type TickThread<J> = PromisedHandle<Result<TickReceipt<J>, JobFault>, TickerPromise<J>>;
 
 /// The threads of a hub, and room for the receipts of its workers.
-#[derive(Drop)]
 pub struct HubThreads<J: Origin> {
     pub ticker: TickThread<J>,
     /// One for each worker, from 0 on.
     pub workers: Vec<WorkerThread<J>>,
     /// An empty list with room for the receipt of each worker.
     pub receipts: Vec<WorkerReceipt<J>>,
+}
+
+impl<J: Origin> Drop for HubThreads<J> {
+    fn drop(self) {
+        let HubThreads {
+            ticker: _,
+            workers: _,
+            receipts: _,
+        } = self;
+    }
+}
+
+impl<J: Origin> HubThreads<J> {
+    ghost use Rattle.std.specs.Prelude.{◌≡◌};
+
+    /// Takes them apart: the ticker's thread, those of the workers, and the room for their receipts.
+    pub(crate) fn into_parts(self) -> (TickThread<J>, Vec<WorkerThread<J>>, Vec<WorkerReceipt<J>>)
+        ensures ticker { result.0 ≡ self.ticker }
+        ensures workers { result.1 ≡ self.workers }
+        ensures receipts { result.2 ≡ self.receipts }
+    {
+        let HubThreads {
+            ticker,
+            workers,
+            receipts,
+        } = self;
+        (ticker, workers, receipts)
+    }
 }

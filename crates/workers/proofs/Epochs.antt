@@ -16,19 +16,19 @@ use Rattle.control.specs.Events.{Heard, Stamp, accepted, after_end, after_save, 
 use Rattle.control.specs.Events.Stamp.{DoneBy, FailedBy, JoinedBy, LostBy, Ticked}
 use Rattle.control.specs.Machine.{Machine, all_set, charged, closed, count_set, counts, finished, freed, has_answer, handed, is_busy, is_out, is_running, is_saved_now, joined, welcomed}
 use Rattle.hub_ends.specs.Hub.{HasByes, received, staff}
-use Rattle.event_loop.specs.JobAnswers.{WhereEnded}
+use Rattle.coordinator.specs.JobAnswers.{WhereEnded}
 use Rattle.worker_loops.specs.Returns.{stamp_sender}
-use Rattle.event_loop.specs.Steps.{Move, after, events}
+use Rattle.coordinator.specs.Steps.{Move, after, events}
 use Rattle.worker_loops.specs.Numbers.{stamps_in}
-use Rattle.event_loop.specs.Steps.Move.{Hand, Take}
+use Rattle.coordinator.specs.Steps.Move.{Hand, Take}
 use Rattle.worker_threads.specs.Threads.{AreSettled, IsSettledHub}
 use Rattle.worker_loops.specs.inside.Epochs.{may_renew, renews}
 use Rattle.worker_threads.specs.inside.Epochs.{AreSteady, IsSteadyHub}
-use Rattle.event_loop.specs.inside.Told.{ToldFrom}
+use Rattle.coordinator.specs.inside.Told.{ToldFrom}
 use Rattle.hub_ends.specs.declared.receipts.Receipts.{Receipts}
 use Rattle.hub_ends.specs.declared.coordinator_ends.CoordinatorEnds.{CoordinatorEnds}
 use Rattle.hub_ends.specs.declared.pass.WorkerReceipt.{WorkerReceipt}
-use Rattle.event_loop.proofs.Ending.{answers_report}
+use Rattle.coordinator.proofs.Ending.{answers_report}
 use Rattle.workers.proofs.Joins.{events_of_sender}
 
 -- ---- one event of the control model

@@ -6,7 +6,7 @@ use Rattle.events.specs.declared.event.Event.{Event}
 use Rattle.events.specs.declared.event.Event.TheVariants as event
 use Rattle.book.specs.declared.report.Report.{Report}
 use Rattle.events.specs.Events.{stamp_of}
-use Rattle.event_loop.specs.JobAnswers.{HasSpent, WhereEnded}
+use Rattle.coordinator.specs.JobAnswers.{HasSpent, WhereEnded}
 use Rattle.hub_ends.specs.Hub.{HasByes, received, staff}
 use Rattle.hub_ends.specs.Messages.{event_sender, sender_of}
 use Rattle.hub_ends.specs.Passes.{handed_in_by}
@@ -14,7 +14,7 @@ use Rattle.channels.specs.Protocol.{of}
 use Rattle.worker_loops.specs.Numbers.{stamps_in}
 use Rattle.workers.specs.Charges.{AreCharged, HasHandedIn}
 use Rattle.worker_threads.specs.Threads.{AreSettled, HasSettled, IsSettledHub}
-use Rattle.event_loop.specs.Units.{cut, units_by, units_of}
+use Rattle.coordinator.specs.Units.{cut, units_by, units_of}
 use Rattle.hub_ends.specs.declared.receipts.Receipts.{Receipts}
 use Rattle.hub_ends.specs.declared.coordinator_ends.CoordinatorEnds.{CoordinatorEnds}
 use Rattle.hub_ends.specs.declared.message.Message.{Message}

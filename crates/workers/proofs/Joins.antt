@@ -11,17 +11,17 @@ use Rattle.control.specs.Machine.{Machine}
 use Rattle.channels.specs.Orders.{at}
 use Rattle.channels.specs.Protocol.{of}
 use Rattle.hub_ends.specs.Hub.{HasByes, handed, received, staff}
-use Rattle.event_loop.specs.Joining.{JoinedFrom}
+use Rattle.coordinator.specs.Joining.{JoinedFrom}
 use Rattle.worker_loops.specs.Counted.{joins_counted}
 use Rattle.hub_ends.specs.Messages.{event_sender, sender_number, sender_of}
 use Rattle.hub_ends.specs.Passes.{handed_in_by}
 use Rattle.worker_loops.specs.Returns.{IsWorkOn, events_by, stamp_sender}
-use Rattle.event_loop.specs.Steps.{events}
+use Rattle.coordinator.specs.Steps.{events}
 use Rattle.worker_loops.specs.Numbers.{outs_in, stamps_in}
 use Rattle.worker_threads.specs.Threads.{AreSettled, IsSettledHub}
 use Rattle.hub_ends.specs.Verdicts.{told_to}
 use Rattle.worker_threads.specs.inside.Joins.{AreJoined}
-use Rattle.event_loop.specs.inside.Told.{ToldFrom}
+use Rattle.coordinator.specs.inside.Told.{ToldFrom}
 use Rattle.hub_ends.specs.declared.receipts.Receipts.{Receipts}
 use Rattle.hub_ends.specs.declared.coordinator_ends.CoordinatorEnds.{CoordinatorEnds}
 use Rattle.hub_ends.specs.declared.message.Message.{Message}
@@ -29,7 +29,7 @@ use Rattle.hub_ends.specs.declared.message.Message.TheVariants as message
 use Rattle.hub_ends.specs.declared.message.Sender.{Sender}
 use Rattle.hub_ends.specs.declared.pass.WorkerReceipt.{WorkerReceipt}
 use Rattle.worker_loops.proofs.Returning.{work_on}
-use Rattle.event_loop.proofs.Telling.{either_way}
+use Rattle.coordinator.proofs.Telling.{either_way}
 
 module _ {J : Type 0} where
   same_sender : (x : Event J) → stamp_sender (stamp_of x) ≡ event_sender x

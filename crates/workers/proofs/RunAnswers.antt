@@ -8,15 +8,15 @@ use Rattle.job_state.specs.declared.fault.Place.{Place}
 use Rattle.job_state.specs.declared.fault.Place.TheVariants as place
 use Rattle.book.specs.declared.report.Report.{Report}
 use Rattle.control.specs.Machine.{Machine}
-use Rattle.event_loop.specs.JobAnswers.{EndedOver, EndedOverOwn, IsKeptRun, IsKeptRunOn, RanOn, RanOnOwn, WhereBegun, WhereConnected, WhereOpened, WhereRun}
-use Rattle.event_loop.specs.Joining.{JoinedFrom, JoinedOn, JoinedOver}
+use Rattle.coordinator.specs.JobAnswers.{EndedOver, EndedOverOwn, IsKeptRun, IsKeptRunOn, RanOn, RanOnOwn, WhereBegun, WhereConnected, WhereOpened, WhereRun}
+use Rattle.coordinator.specs.Joining.{JoinedFrom, JoinedOn, JoinedOver}
 use Rattle.worker_loops.specs.Returns.{IsWorkOn, events_by}
-use Rattle.event_loop.specs.Steps.{Move, events, hands}
+use Rattle.coordinator.specs.Steps.{Move, events, hands}
 use Rattle.worker_loops.specs.Numbers.{outs_in, stamps_in}
 use Rattle.hub_ends.specs.declared.message.Message.{Message}
 use Rattle.channels.specs.Orders.{at}
 use Rattle.channels.specs.declared.order.Order.{Order}
-use Rattle.event_loop.proofs.Ending.{answers_report}
+use Rattle.coordinator.proofs.Ending.{answers_report}
 
 module _ {J : Type 0} (work : Work) (honest : ℕ → Bool) (received : List (Message J)) (handed : List (List (Order J))) where
   pub answer_told : (r : Result Report JobFault) → WhereRun r (EndedOver work honest received handed r)

@@ -3,7 +3,7 @@ use Rattle.std.specs.Prelude.{◌≡◌, ◌+◌, ℕ, Option, Some, None, List,
 use Rattle.book.specs.declared.report.Report.{Report}
 use Rattle.hub_ends.specs.Passes.{handed_in_by}
 use Rattle.worker_loops.specs.Numbers.{stamps_in}
-use Rattle.event_loop.specs.Units.{cut, units_by}
+use Rattle.coordinator.specs.Units.{cut, units_by}
 use Rattle.hub_ends.specs.declared.receipts.Receipts.{Receipts}
 use Rattle.hub_ends.specs.declared.pass.WorkerReceipt.{WorkerReceipt}
 

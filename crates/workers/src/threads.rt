@@ -6,7 +6,7 @@ ghost use Rattle.superstep.specs.Ending.{IsEndOf};
 ghost use Rattle.superstep.specs.Tasks.{trusts};
 ghost use Rattle.checkpoint.specs.Keep.{LoadsNothingElse};
 ghost use Rattle.book.specs.Calm.{NeverFails};
-ghost use Rattle.event_loop.specs.JobAnswers.{IsCalmReport, IsKeptRun, IsKeptRunOn, IsRunFault, LoadsMadeAt, WhereBegun};
+ghost use Rattle.coordinator.specs.JobAnswers.{IsCalmReport, IsKeptRun, IsKeptRunOn, IsRunFault, LoadsMadeAt, WhereBegun};
 
 use crate::run::{resume_job, run_job};
 use book::Report;

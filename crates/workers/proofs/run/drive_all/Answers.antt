@@ -1,11 +1,11 @@
 use Rattle.std.proofs.Common.{◌≡◌, ◌∙◌, arith, false, length, map, ℕ, sym, subst, IfOk}
-use Rattle.event_loop.specs.JobAnswers.{HasSpent, RanFromKeep, WhereEnded, has_ended}
+use Rattle.coordinator.specs.JobAnswers.{HasSpent, RanFromKeep, WhereEnded, has_ended}
 use Rattle.hub_ends.specs.Hub.{HasByes, handed, received, staff}
 use Rattle.hub_ends.specs.Verdicts.{told_on}
 use Rattle.worker_threads.specs.inside.Joins.{AreJoined, AreLinked}
-use Rattle.event_loop.specs.inside.Told.{ToldFrom}
+use Rattle.coordinator.specs.inside.Told.{ToldFrom}
 use Rattle.channels.proofs.Handing.{length_map}
-use Rattle.event_loop.proofs.Ending.{not_ended, where_ended, where_mapped, where_two, with_last}
+use Rattle.coordinator.proofs.Ending.{not_ended, where_ended, where_mapped, where_two, with_last}
 use Rattle.workers.proofs.Epochs.{epoch_told}
 use Rattle.hub_ends.proofs.Handing.{hub_then}
 use Rattle.workers.proofs.Joins.{joined_from}

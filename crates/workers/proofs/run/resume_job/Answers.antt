@@ -1,4 +1,4 @@
-use Rattle.event_loop.proofs.Ending.{calm_told_on, joined_begun, on_own, own_begun, unspent_begun, where_mapped, where_run}
+use Rattle.coordinator.proofs.Ending.{calm_told_on, joined_begun, on_own, own_begun, unspent_begun, where_mapped, where_run}
 use Rattle.workers.proofs.HandedIn.{handed_in}
 use Rattle.hub_ends.specs.Hub.{handed, received}
 use Rattle.workers.proofs.run.resume_job.Goals as goal

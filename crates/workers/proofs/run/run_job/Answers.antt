@@ -1,4 +1,4 @@
-use Rattle.event_loop.proofs.Ending.{calm_told, ended_own, joined_opened, keeps_first, opened_of, own_opened, unspent_opened, where_mapped, where_run}
+use Rattle.coordinator.proofs.Ending.{calm_told, ended_own, joined_opened, keeps_first, opened_of, own_opened, unspent_opened, where_mapped, where_run}
 use Rattle.std.proofs.Common.{◌∙◌, ap}
 use Rattle.control.specs.Machine.{Machine, count_set}
 use Rattle.control.proofs.ByPlace.{count_none}

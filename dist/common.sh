@@ -102,36 +102,57 @@ end_jobs() {
     wait
 }
 
+# Waits until the output of a run of rt, in the file $2, has told of $3 crates. Fails where the run, process $1, ends before.
+await_crates() {
+    while [ "$(grep -cE '^rt: [a-z_0-9]+ (proved|is kept)' "$2")" -lt "$3" ]; do
+        kill -0 "$1" 2>/dev/null || return
+        sleep 1
+    done
+}
+
+# Begins to prove all that pregel stands on, in folders below $1. Notes its two runs of rt in `runs`, and returns when two crates are left.
+#
+# A run begins with the crates that have most lines of code above them. The threads of workers have few lines for what their proofs take, so
+# they would come last, and what stands on them would wait. So a second run has nothing else to do. Where both come to a crate, one
+# waits and takes what the other has proved.
+begin_below() {
+    local names
+    mapfile -t names < <(crates_below pregel | grep -vx pregel)
+    : >"$1/told"
+    RT_JOBS=$(checks_that_fit) prove_copy "$1/below" "${names[@]}" > >(tee -a "$1/told") &
+    runs+=($!)
+    RT_JOBS=2 prove_copy "$1/threads" worker_threads &
+    runs+=($!)
+    await_crates "${runs[0]}" "$1/told" $((${#names[@]} - 2)) || wait "${runs[0]}"
+}
+
 # Proves all that the program stands on, and builds it in the folder $1/whole.
 #
 # A run of rt reckons with more memory than its checks take, and so with few at a time. Where RT_JOBS is set it does not, but then each
-# check has one processor. So there are two stages where rt keeps what the first has proved: four checks side by side, and then pregel
-# itself, whose check gets two processors or more.
-#
-# A run begins with the crates that have most lines of code above them. The threads of workers have few lines for what their proofs take, so
-# it would come to them last, and what stands on them would wait. So the first stage is two runs, of which one has nothing else to do.
-# Where both come to a crate, one waits and takes what the other has proved.
+# check has one processor. So where rt keeps what a run has proved, pregel has a run of its own, and its check gets two processors or
+# more. It looks at what is kept while the last two crates below it are proved.
 prove_in_stages() {
-    local beside
+    local run runs=()
     set -m
     trap 'end_jobs; exit 143' TERM
     if [ "$(free_memory)" -lt 20 ]; then
         export RT_JOBS=${RT_JOBS:-$(checks_that_fit)}
     elif [ -z "${RT_JOBS:-}" ] && [ "$(nproc)" -ge 4 ]; then
-        if keeps_proofs; then
-            RT_JOBS=2 prove_copy "$1/threads" worker_threads &
-            beside=$!
-            RT_JOBS=$(checks_that_fit) prove_copy "$1/below" $(crates_below pregel | grep -vx pregel) &
-            if ! { wait $! && wait "$beside"; }; then
-                end_jobs
-                return 1
-            fi
-        else
+        if ! keeps_proofs; then
             export RT_JOBS=$(checks_that_fit)
+        elif ! begin_below "$1"; then
+            end_jobs
+            return 1
         fi
     fi
     prove_copy "$1/whole" pregel &
-    wait $!
+    runs+=($!)
+    for run in "${runs[@]}"; do
+        if ! wait "$run"; then
+            end_jobs
+            return 1
+        fi
+    done
 }
 
 # Proves the program, builds it at $program, and says how far that is. It works in a temporary folder.

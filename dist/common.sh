@@ -113,15 +113,15 @@ await_crates() {
 # Begins to prove all that pregel stands on, in folders below $1. Notes its two runs of rt in `runs`, and returns when two crates are left.
 #
 # A run begins with the crates that have most lines of code above them. The threads of workers have few lines for what their proofs take, so
-# they would come last, and what stands on them would wait. So a second run has nothing else to do. Where both come to a crate, one
-# waits and takes what the other has proved.
+# they would come last, and what stands on them would wait. So a second run, with one check at a time, has nothing else to do. Where both
+# come to a crate, one waits and takes what the other has proved.
 begin_below() {
     local names
     mapfile -t names < <(crates_below pregel | grep -vx pregel)
     : >"$1/told"
     RT_JOBS=$(checks_that_fit) prove_copy "$1/below" "${names[@]}" > >(tee -a "$1/told") &
     runs+=($!)
-    RT_JOBS=2 prove_copy "$1/threads" worker_threads &
+    RT_JOBS=1 prove_copy "$1/threads" worker_threads &
     runs+=($!)
     await_crates "${runs[0]}" "$1/told" $((${#names[@]} - 2)) || wait "${runs[0]}"
 }

@@ -19,9 +19,10 @@ use checkpoint::{Device, FileKeep, Folder, MemoryKeep};
 use conversions::{assemble_file, fit_file, import_file, print_file, upgrade_file};
 use line_text::{Output, WriteFailure};
 use plain_commands::{
-    RunNotes, Watch, call_files, job_of, keep_in, refuse, replay_files, tell, verify_file,
+    RunNotes, call_files, job_of, keep_in, refuse, replay_files, tell, verify_file,
 };
 use requests::{Progress, Request, RunRequest};
+use run_report::Watch;
 use run_views::{Loss, LossGate, RunGate, View, warn_of_run};
 use sources::{CommandFault, Files};
 use std::alloc::Global;

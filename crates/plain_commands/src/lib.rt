@@ -15,7 +15,6 @@ mod sheets;
 mod sizes;
 mod step_line;
 mod steps;
-mod watching;
 
 pub use bounds::verify_file;
 pub use compute_call::{call, call_files};
@@ -28,4 +27,3 @@ pub use printing::{refuse, tell};
 pub use replay::{replay_files, trace_text};
 pub use sheets::write_sheets;
 pub use steps::steps_of;
-pub use watching::Watch;

@@ -4,10 +4,9 @@ ghost use Rattle.std.specs.Prelude.{◌≡◌, false, map, IfOk, IsSome, None};
 ghost use Rattle.run_report.specs.Tally.{capped};
 ghost use Rattle.plain_commands.specs.Notes.{HasNoted, IsOfEnd, IsOfFault, IsOfJob, IsOutcomeOf, IsOutcomeOfFault, IsReportOf, NotesOnly, settings_in};
 
-use crate::watching::Watch;
 use book::Report;
 use call_lines::end_word;
-use run_report::{Ended, Outcome, RunReport, RunSettings, Tally, capped};
+use run_report::{Ended, Outcome, RunReport, RunSettings, Tally, Watch, capped};
 use std::alloc::{AllocError, Global};
 use std::sync::Wait;
 use superstep::{Job, JobFault, Settings};

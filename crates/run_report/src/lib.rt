@@ -5,8 +5,10 @@ mod counts;
 mod json;
 mod report;
 mod tally;
+mod watch;
 
 pub use counts::SuperstepCounts;
 pub use json::json_text;
 pub use report::{JobFiles, Outcome, RunReport, RunSettings};
 pub use tally::{Ended, Tallied, Tally, capped};
+pub use watch::Watch;

@@ -4,8 +4,7 @@ ghost use Rattle.std.specs.Prelude.{◌≡◌};
 ghost use Rattle.run_views.specs.Loss.{is_due, loss_of};
 
 use call_lines::u32_of;
-use plain_commands::Watch;
-use run_report::{Tallied, capped};
+use run_report::{Tallied, Watch, capped};
 use std::sync::Wait;
 use std::sync::atomic::{AtomicBool, Ordering};
 use worker_loops::{Gate, Turn, Worked};

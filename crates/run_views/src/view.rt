@@ -3,7 +3,7 @@
 ghost use Rattle.std.specs.Prelude.{◌≡◌, is_some};
 
 use crate::loss::LossGate;
-use plain_commands::Watch;
+use run_report::Watch;
 use std::sync::Wait;
 use superstep::JobEnd;
 use worker_loops::{Gate, Turn, Worked};

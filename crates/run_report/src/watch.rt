@@ -1,6 +1,6 @@
 //! What is counted of a job while it runs.
 
-use run_report::{Tallied, Tally};
+use crate::tally::{Tallied, Tally};
 use std::alloc::Global;
 use std::sync::atomic::{AtomicBool, Ordering};
 use std::sync::{Mutex, MutexGuard, Wait};

@@ -11,6 +11,5 @@ mod report;
 mod saving;
 
 pub use book::Book;
-pub use control::{Answer, JobStatus};
-pub use events::Event;
+pub use control::{Answer, Event, JobStatus};
 pub use report::{Report, Status};

@@ -1,6 +1,8 @@
-//! The program's command line: reads its words, and returns the request in them.
+//! The program's command line: reads its words, returns the request in them, and reports what is wrong with them.
 #![tactic(auto)]
 
+mod arguments;
 mod command_line;
 
+pub use arguments::{refuse_arguments, refuse_words, words};
 pub use command_line::options;

@@ -8,7 +8,7 @@ mod small;
 
 use crate::modules::plain_of;
 use conformance_cases::{Line, halves};
-use numeric_values::{i32_eqz, i32_wrap_i64, i64_eqz, i64_extend_i32_s, i64_extend_i32_u};
+use semantics::{i32_eqz, i32_wrap_i64, i64_eqz, i64_extend_i32_s, i64_extend_i32_u};
 use std::alloc::Global;
 use std::fmt;
 use wasm_ast::{Conversion, Numeric, Plain, ValType, Value};

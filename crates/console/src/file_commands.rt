@@ -56,7 +56,7 @@ use superstep::Job;
 ///
 /// `call`, `run` and `verify` refuse a module whose size is greater than asked for, after the module's own refusals and before
 /// they read the input or the graph. With `explains` they show beside their answers why the module is refused; what they answer
-/// is the same. `graph` makes a graph file of the edges in a file, as `graph_import::import` does, and answers
+/// is the same. `graph` makes a graph file of the edges in a file, as `import` of `conversions` does, and answers
 /// `ok VERTICES EDGES`. What is shown in the view while a job runs, and the warnings of `run`, change no answer. Where a run is to
 /// be reported, what it did is noted, for `write_sheets`.
 pub fn command<F: Files, O: Output, V: View + Sync>(

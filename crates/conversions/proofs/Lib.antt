@@ -1,3 +1,6 @@
 pub mod Disks
 pub mod Fits
 pub mod Imports
+pub mod Meaning
+pub mod Lines
+pub mod Whole

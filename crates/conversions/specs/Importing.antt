@@ -3,9 +3,9 @@ use denote.Bor.{Bor}
 use Rattle.std.specs.Prelude.{◌≡◌, ◌⊎◌, ℕ, true, List, [], ◌∷◌, ◌++◌, Option, Some, None, String, codes, string_bytes}
 use Rattle.std.specs.Fmt.{decimal}
 use Rattle.std.specs.Option.{is_some}
-use Rattle.graph_import.specs.Import.{IsImport, format_in}
-use Rattle.graph_import.specs.declared.making.Imported.{Imported}
-use Rattle.graph_import.specs.declared.plan.Plan.{Plan}
+use Rattle.conversions.specs.graph_import.Import.{IsImport, format_in}
+use Rattle.conversions.specs.declared.graph_import.making.Imported.{Imported}
+use Rattle.conversions.specs.declared.graph_import.plan.Plan.{Plan}
 use Rattle.requests.specs.declared.request.ImportRequest.{ImportRequest}
 use Rattle.sources.specs.declared.fault.CommandFault.{CommandFault}
 use Rattle.sources.specs.declared.fault.CommandFault.TheVariants as command

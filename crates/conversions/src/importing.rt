@@ -7,7 +7,7 @@ ghost use Rattle.conversions.specs.Importing.{IsImportedAt, IsNoImportAt, IsNotI
 ghost use Rattle.sources.specs.Writing.{TriesAll, WritesAll};
 ghost use Rattle.conversions.specs.Causes.{StaysBeforeWriting};
 
-use graph_import::{Imported, Plan, format_of, import};
+use crate::graph_import::{Imported, Plan, format_of, import};
 use line_text::TextBuilder;
 use requests::ImportRequest;
 use sources::{CommandFault, Files, read_text, write};

@@ -2,6 +2,7 @@
 //! checkpoint of the newest version.
 #![tactic(auto)]
 
+mod graph_import;
 mod importing;
 mod module_files;
 mod upgrading;

@@ -7,13 +7,12 @@ use Rattle.job_state.specs.declared.fault.JobFault.{JobFault}
 use Rattle.superstep.specs.declared.task.Task.{Task}
 use Rattle.control.specs.declared.control.Out.{Out}
 use Rattle.control.specs.declared.answer.Answer.{Answer}
-use Rattle.events.specs.declared.event.Event.{Event}
-use Rattle.events.specs.declared.event.Event.TheVariants as happened
+use Rattle.control.specs.declared.event.Event.{Event}
+use Rattle.control.specs.declared.event.Event.TheVariants as happened
 use Rattle.control.specs.Machine.{Machine, hand, handed, task_of}
 use Rattle.control.specs.Events.{Heard, accepted, reply_of}
 use Rattle.control.specs.Events.Stamp.{LostBy}
-use Rattle.events.specs.Events.{stamp_of}
-use Rattle.control.specs.Stamps.{task_out}
+use Rattle.control.specs.Stamps.{stamp_of, task_out}
 use Rattle.book.specs.Saving.{IsKeptStep, KeepsFor}
 use Rattle.book.proofs.Keeps.{keeps_same}
 use Rattle.book.proofs.Counts.{kept_still}

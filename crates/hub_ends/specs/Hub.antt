@@ -1,7 +1,7 @@
 -- What belongs to one hub, and what its coordinator received and sent.
 use Rattle.std.specs.Global.{Vec}
 use Rattle.std.specs.Prelude.{◌≡◌, ◌<◌, ◌+◌, ℕ, true, List, [], ◌∷◌, map, vec_len, slice_get, Some}
-use Rattle.events.specs.declared.event.Event.{Event}
+use Rattle.control.specs.declared.event.Event.{Event}
 use Rattle.channels.specs.ChannelEnds.{channel_of, received_by, source_of}
 use Rattle.hub_ends.specs.Messages.{closes, sender_of}
 use Rattle.channels.specs.TaskChannels.{channel_on, sent_on}

@@ -1,7 +1,7 @@
 //! Messages to the coordinator, and their senders.
 
 use channels::Signed;
-use events::Event;
+use control::Event;
 use superstep::Origin;
 
 /// A sender to the coordinator.

@@ -2,7 +2,7 @@
 
 ghost use Rattle.std.specs.Prelude.{◌≡◌, ◌+◌, ◌++◌, ◌∷◌, [], false, IfOk, IfErr, OnOk, OnErr};
 ghost use Rattle.job_state.specs.declared.fault.JobFault.TheVariants.{Closed};
-ghost use Rattle.events.specs.declared.event.Event.TheVariants.{Tick};
+ghost use Rattle.control.specs.declared.event.Event.TheVariants.{Tick};
 ghost use Rattle.channels.specs.ChannelEnds.{number_of, sent_by};
 ghost use Rattle.hub_ends.specs.Messages.{closes, event_sender};
 ghost use Rattle.channels.specs.Orders.{order_of};
@@ -12,7 +12,7 @@ ghost use Rattle.hub_ends.specs.declared.message.Sender.TheVariants.{Ticker, Wor
 
 use crate::message::{Message, Sender};
 use channels::{Order, ReceivingEnd, SendingEnd};
-use events::Event;
+use control::Event;
 use std::alloc::Global;
 use std::sync::atomic::{AtomicBool, Ordering};
 use std::sync::{Arc, Wait};

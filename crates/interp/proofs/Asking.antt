@@ -21,7 +21,7 @@ use Rattle.wasm_ast.specs.Code.{Code}
 use Rattle.wasm_ast.specs.declared.plain.MemoryArgument.{MemoryArgument}
 use Rattle.verified.specs.Memory.{number_of}
 use Rattle.wasm_ast.specs.Numeric.{conversion_from}
-use Rattle.numeric_values.specs.Operations.{division_traps}
+use Rattle.semantics.specs.Operations.{division_traps}
 use Rattle.wasm_ast.specs.NumericTypes.{numeric_takes}
 use Rattle.wasm_ast.specs.Widths.{load_width, store_type, store_width}
 use Rattle.verified.specs.declared.call.TheConstants.{AGGREGATORS}

@@ -14,7 +14,7 @@ use Rattle.wasm_ast.specs.declared.plain.Variable.TheVariants as variable
 use Rattle.wasm_ast.specs.declared.plain.Plain.{Plain}
 use Rattle.wasm_ast.specs.declared.plain.Plain.TheVariants as plain
 use Rattle.wasm_ast.specs.Numeric.{bits_of, conversion_from}
-use Rattle.numeric_values.specs.Operations.{division_traps, division_value}
+use Rattle.semantics.specs.Operations.{division_traps, division_value}
 use Rattle.wasm_ast.specs.Widths.{store_type}
 use Rattle.verified.specs.declared.imports.HostCall.{HostCall}
 use Rattle.verified.specs.declared.imports.HostCall.TheVariants.{VertexId, Superstep, NumVertices, GetValue, SetValue, NextMessage, MessageValue, NextEdge, EdgeTarget, EdgeValue, Send, Aggregate, Aggregated, VoteToHalt}

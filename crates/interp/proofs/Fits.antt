@@ -22,7 +22,7 @@ use Rattle.wasm_ast.specs.declared.plain.Branch.TheVariants as branch
 use Rattle.wasm_ast.specs.declared.module.Function.{Function}
 use Rattle.wasm_ast.specs.Code.{Code}
 use Rattle.wasm_ast.specs.Numeric.{bits_of, conversion_from}
-use Rattle.numeric_values.specs.Operations.{division_traps, division_value}
+use Rattle.semantics.specs.Operations.{division_traps, division_value}
 use Rattle.wasm_ast.specs.Values.{zero_of}
 use Rattle.wasm_ast.specs.Widths.{load_width, store_type, store_width}
 use Rattle.verified.specs.declared.call.TheConstants.{AGGREGATORS}

@@ -25,7 +25,7 @@ use Rattle.wasm_ast.specs.Code.{Code}
 use Rattle.wasm_ast.specs.Code as code
 use Rattle.wasm_ast.specs.Limits.{IsCodeWithin, IsFunctionWithin, length_of_parameters, max_locals, max_nesting}
 use Rattle.wasm_ast.specs.Numeric.{bits_of, conversion_from}
-use Rattle.numeric_values.specs.Operations.{division_traps, division_value}
+use Rattle.semantics.specs.Operations.{division_traps, division_value}
 use Rattle.wasm_ast.specs.Values.{zero_of}
 use Rattle.wasm_ast.specs.Widths.{store_type}
 use Rattle.verified.specs.declared.imports.HostCall.{HostCall}

@@ -10,7 +10,7 @@ ghost use Rattle.interp.specs.inside.Kept.{count_kept, is_kept, kept_laid, kept_
 ghost use Rattle.semantics.specs.inside.Touched.{marks};
 
 use crate::cell::of_i32;
-use numeric_values::i64_extend_i32_s;
+use semantics::i64_extend_i32_s;
 use std::alloc::{AllocError, Global};
 use std::marker::Model;
 use verified::Verified;

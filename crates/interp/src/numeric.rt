@@ -13,7 +13,7 @@ ghost use Rattle.wasm_ast.specs.declared.types.ValType.TheVariants.{I32 as i32_t
 use crate::cell::{as_i32, of_i32};
 use crate::operand_stack::{pop, push};
 use crate::plain::Acted;
-use numeric_values::{
+use semantics::{
     i32_binary, i32_comparison_holds, i32_division, i32_eqz, i32_unary, i32_wrap_i64, i64_binary,
     i64_comparison_holds, i64_division, i64_eqz, i64_extend_i32_s, i64_extend_i32_u, i64_unary,
 };

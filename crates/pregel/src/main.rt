@@ -4,25 +4,22 @@
 ghost use Rattle.std.specs.Prelude.{◌≡◌, ◌⊎◌, IfOk, OnErr};
 ghost use Rattle.std.specs.Process.{exit_status};
 
-mod failure_recorder;
 mod program;
 
-use crate::failure_recorder::FailureRecorder;
 use crate::program::execute;
 use checkpoint::{Device, Folder};
-use clap::error::ErrorKind;
-use command_line::options;
+use command_line::{options, refuse_arguments, refuse_words, words};
+use line_text::FailureRecorder;
 use requests::Options;
 use run_views::ProgressLine;
 use session::ServeFault;
 use sources::{CommandFault, System, SystemFiles};
+use std::io;
 use std::io::IsTerminal;
 use std::process::ExitCode;
-use std::rt::Env;
 use std::sync::Wait;
 use std::thread::{Threads, available_parallelism};
 use std::time::Clock;
-use std::{env, io};
 
 // Runs the program, and ends with its status:
 // * 0: an answer, a session that ended well, or help;
@@ -40,30 +37,6 @@ fn main(rt: HostRuntime) -> ExitCode {
         Err(error) => refuse_arguments(&rt, error),
     };
     exit_code(&rt, outcome)
-}
-
-// Reads the words of the command line. The first is the program's name.
-fn words(rt: &(impl Env + AllocGlobal)) -> io::Result<Vec<String>> {
-    let words: Vec<String> = env::args(rt)?.collect(rt.alloc())?;
-    Ok(words)
-}
-
-// Reports an argument that is no text, if that is why there are no words.
-fn refuse_arguments(rt: &impl Eprint, error: io::Error) -> io::Result<u8> {
-    if error.kind() != io::ErrorKind::InvalidData {
-        return Err(error);
-    }
-    eprintln!(rt; "error: an argument is not in UTF-8")?;
-    Ok(2)
-}
-
-// Prints why the words are refused, or the help that they ask for.
-fn refuse_words(rt: &(impl Print + Eprint), error: &clap::Error) -> io::Result<u8> {
-    if error.kind() == ErrorKind::OutOfMemory {
-        return Err(io::Error::from(io::ErrorKind::OutOfMemory));
-    }
-    error.print(rt)?;
-    Ok(if error.use_stderr() { 2 } else { 0 })
 }
 
 // Does what the options ask for, with the system's files and streams. Standard error is a terminal or is not.

@@ -1,3 +1,5 @@
+mod Rotations
+mod Divisions
 pub mod OneEnd
 pub mod RunLaws
 pub mod Counts

@@ -22,9 +22,9 @@ use Rattle.wasm_ast.specs.declared.plain.Plain.{Plain}
 use Rattle.wasm_ast.specs.declared.plain.Plain.TheVariants as plain
 use Rattle.wasm_ast.specs.declared.module.Module.{Module}
 use Rattle.wasm_ast.specs.Code as code
-use Rattle.numeric_values.specs.Operations as numbers
+use Rattle.semantics.specs.Operations as numbers
 use Rattle.wasm_ast.specs.Numeric.{bits_of, truth, conversion_from, conversion_to}
-use Rattle.numeric_values.specs.Operations.{eqz_value, comparison_holds, unary_value, binary_value, division_traps, division_value, conversion_value}
+use Rattle.semantics.specs.Operations.{eqz_value, comparison_holds, unary_value, binary_value, division_traps, division_value, conversion_value}
 use Rattle.wasm_ast.specs.NumericTypes.{numeric_gives}
 use Rattle.wasm_ast.specs.Widths.{load_width, load_type, store_width, store_type}
 use Rattle.wasm_ast.specs.Values.{type_of}

@@ -1,5 +1,6 @@
--- What a reader has to believe, in this order. First the machine: configurations, what instructions do to them, and
--- steps.
+-- What a reader has to believe, in this order. First the value of each numeric instruction (Core 1.0, 4.3).
+pub mod Operations
+-- the machine: configurations, what instructions do to them, and steps
 pub mod Configuration
 pub mod Memory
 pub mod Effects

@@ -1,7 +1,7 @@
 -- What a thread sends where nobody is lost: nothing by which an epoch begins.
 use Rattle.std.proofs.Common.{◌≡◌, ◌∙◌, Bool, false, ◌||◌, List, [], ◌∷◌, ◌++◌, ap}
-use Rattle.events.specs.declared.event.Event.{Event}
-use Rattle.events.specs.Events.{stamp_of}
+use Rattle.control.specs.declared.event.Event.{Event}
+use Rattle.control.specs.Stamps.{stamp_of}
 use Rattle.control.specs.Events.{Stamp}
 use Rattle.worker_loops.specs.Numbers.{stamps_in}
 use Rattle.worker_loops.specs.inside.Epochs.{may_renew, renews}

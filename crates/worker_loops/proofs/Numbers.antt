@@ -2,9 +2,8 @@
 use Rattle.std.proofs.Common.{◌≡◌, List, [], ◌∷◌, ◌++◌, map, refl, ap, ◌∙◌}
 use mathlib.Core.List.{append-nil, map-append}
 use Rattle.superstep.specs.declared.task.Task.{Task}
-use Rattle.events.specs.declared.event.Event.{Event}
-use Rattle.events.specs.Events.{stamp_of}
-use Rattle.control.specs.Stamps.{task_out}
+use Rattle.control.specs.declared.event.Event.{Event}
+use Rattle.control.specs.Stamps.{stamp_of, task_out}
 use Rattle.channels.specs.Orders.{tasks_in}
 use Rattle.hub_ends.specs.Hub.{events_in}
 use Rattle.worker_loops.specs.Numbers.{outs_in, stamps_in}

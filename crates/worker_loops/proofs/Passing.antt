@@ -4,7 +4,7 @@ use Rattle.std.proofs.Common.{◌≡◌, ◌∙◌, Bool, true, false, List, [],
 use Rattle.job_state.specs.declared.fault.JobFault.{JobFault}
 use mathlib.Core.List.{append-nil}
 use Rattle.std.specs.Prelude.{◌||◌, not}
-use Rattle.events.specs.declared.event.Event.{Event}
+use Rattle.control.specs.declared.event.Event.{Event}
 use Rattle.hub_ends.specs.Messages.{AddsJoins, is_joined, is_lost, joins_follow}
 use Rattle.hub_ends.specs.declared.message.Message.{Message}
 use Rattle.hub_ends.specs.declared.message.Message.TheVariants as message

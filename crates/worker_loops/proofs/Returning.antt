@@ -6,10 +6,9 @@ use Rattle.job_state.specs.Stamps.{DoneStamp, TaskStamp}
 use Rattle.superstep.specs.Tasks.{AreUnitsAt}
 use Rattle.superstep.specs.declared.task.Task.{Task}
 use Rattle.control.specs.declared.control.Out.{Out}
-use Rattle.events.specs.declared.event.Event.{Event}
-use Rattle.events.specs.declared.event.Event.TheVariants as happened
-use Rattle.events.specs.Events.{stamp_of}
-use Rattle.control.specs.Stamps.{done_out, task_out}
+use Rattle.control.specs.declared.event.Event.{Event}
+use Rattle.control.specs.declared.event.Event.TheVariants as happened
+use Rattle.control.specs.Stamps.{done_out, stamp_of, task_out}
 use Rattle.control.specs.Events.{Stamp}
 use Rattle.control.specs.Events.Stamp.{DoneBy, JoinedBy, LostBy}
 use Rattle.channels.specs.Orders.{coordinator, order_of, tasks_in}

@@ -2,8 +2,7 @@
 use Rattle.std.specs.Prelude.{List, map}
 use Rattle.control.specs.declared.control.Out.{Out}
 use Rattle.control.specs.Events.{Stamp}
-use Rattle.events.specs.Events.{stamp_of}
-use Rattle.control.specs.Stamps.{task_out}
+use Rattle.control.specs.Stamps.{stamp_of, task_out}
 use Rattle.channels.specs.Orders.{tasks_in}
 use Rattle.hub_ends.specs.Hub.{events_in}
 use Rattle.hub_ends.specs.declared.message.Message.{Message}

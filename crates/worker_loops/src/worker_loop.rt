@@ -5,8 +5,7 @@ ghost use Rattle.superstep.specs.Tasks.{AreUnitsAt};
 ghost use Rattle.job_state.specs.declared.fault.JobFault.TheVariants.{Closed};
 ghost use Rattle.job_state.specs.declared.fault.Place.TheVariants.{Call};
 ghost use Rattle.control.specs.declared.control.Out.{Out};
-ghost use Rattle.events.specs.Events.{stamp_of};
-ghost use Rattle.control.specs.Stamps.{task_out};
+ghost use Rattle.control.specs.Stamps.{stamp_of, task_out};
 ghost use Rattle.hub_ends.specs.Messages.{AddsJoins, event_sender, is_joined, is_lost};
 ghost use Rattle.hub_ends.specs.Passes.{IsReceipt, IsSamePass, IsTickReceipt, handed_in, taken, ticked};
 ghost use Rattle.worker_loops.specs.Returns.{IsReturnOf};
@@ -19,7 +18,7 @@ ghost use Rattle.worker_loops.specs.inside.Returning.{AddsReturn, AddsReturns, H
 
 use crate::gate::{Gate, Turn, Worked};
 use compute::run_task;
-use events::Event;
+use control::Event;
 use hub_ends::{TickPass, TickReceipt, VerdictReader, WorkerPass, WorkerReceipt};
 use interp::Scratch;
 use std::alloc::Global;

@@ -2,10 +2,10 @@
 use Rattle.std.proofs.lemmas.Bool.Decides.{eqb_tells}
 use Rattle.std.proofs.Common.{◌≡◌, ◌≢◌, ℕ, ◌+◌, ◌<◌, List, [], ◌∷◌, Result, Ok, Err, IfOk, Option, Some, None, cond, eq-eqb, ne_eqb, refl, sym, ap, ◌∙◌, arith, ◌⊎◌, ⊎_elim, inl, inr, length}
 use Rattle.job_state.specs.declared.fault.JobFault.{JobFault}
-use Rattle.events.specs.declared.event.Event.{Event}
-use Rattle.events.specs.declared.event.Event.TheVariants as event
+use Rattle.control.specs.declared.event.Event.{Event}
+use Rattle.control.specs.declared.event.Event.TheVariants as event
 use Rattle.book.specs.declared.report.Report.{Report}
-use Rattle.events.specs.Events.{stamp_of}
+use Rattle.control.specs.Stamps.{stamp_of}
 use Rattle.coordinator.specs.JobAnswers.{HasSpent, WhereEnded}
 use Rattle.hub_ends.specs.Hub.{HasByes, received, staff}
 use Rattle.hub_ends.specs.Messages.{event_sender, sender_of}

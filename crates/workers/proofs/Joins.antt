@@ -3,10 +3,10 @@ use Rattle.std.proofs.Common.{◌≡◌, ◌≢◌, ◌∙◌, ℕ, ◌+◌, ◌
 use Rattle.std.specs.Prelude.{◌==◌}
 use Rattle.superstep.specs.Job.{Work}
 use Rattle.job_state.specs.declared.fault.JobFault.{JobFault}
-use Rattle.events.specs.declared.event.Event.{Event}
-use Rattle.events.specs.declared.event.Event.TheVariants as happened
+use Rattle.control.specs.declared.event.Event.{Event}
+use Rattle.control.specs.declared.event.Event.TheVariants as happened
 use Rattle.book.specs.declared.report.Report.{Report}
-use Rattle.events.specs.Events.{stamp_of}
+use Rattle.control.specs.Stamps.{stamp_of}
 use Rattle.control.specs.Machine.{Machine}
 use Rattle.channels.specs.Orders.{at}
 use Rattle.channels.specs.Protocol.{of}

@@ -1,7 +1,7 @@
 //! The instructions of i64 (Core 1.0, 4.3.2), by their functions and by their enums.
 
 use super::Given;
-use numeric_values::{
+use semantics::{
     i64_add, i64_and, i64_binary, i64_clz, i64_comparison_holds, i64_ctz, i64_div_s, i64_div_u,
     i64_division, i64_division_traps, i64_eq, i64_ge_s, i64_ge_u, i64_gt_s, i64_gt_u, i64_le_s,
     i64_le_u, i64_lt_s, i64_lt_u, i64_mul, i64_ne, i64_or, i64_popcnt, i64_rem_s, i64_rem_u,

@@ -1,7 +1,7 @@
 //! The instructions of i32 (Core 1.0, 4.3.2), by their functions and by their enums.
 
 use super::Given;
-use numeric_values::{
+use semantics::{
     i32_add, i32_and, i32_binary, i32_clz, i32_comparison_holds, i32_ctz, i32_div_s, i32_div_u,
     i32_division, i32_division_traps, i32_eq, i32_ge_s, i32_ge_u, i32_gt_s, i32_gt_u, i32_le_s,
     i32_le_u, i32_lt_s, i32_lt_u, i32_mul, i32_ne, i32_or, i32_popcnt, i32_rem_s, i32_rem_u,

@@ -4,8 +4,8 @@ use Rattle.superstep.specs.Job.{Work}
 use Rattle.job_state.specs.declared.fault.JobFault.{JobFault}
 use Rattle.channels.specs.declared.order.Order.{Order}
 use Rattle.control.specs.declared.answer.Answer.{Answer}
-use Rattle.events.specs.declared.event.Event.{Event}
-use Rattle.events.specs.declared.event.Event.TheVariants.{Done, Failed, Joined, Lost, Tick}
+use Rattle.control.specs.declared.event.Event.{Event}
+use Rattle.control.specs.declared.event.Event.TheVariants.{Done, Failed, Joined, Lost, Tick}
 use Rattle.book.specs.declared.report.Report.{Report}
 use Rattle.control.specs.Machine.{Machine}
 use Rattle.coordinator.specs.JobAnswers.{RanFrom}

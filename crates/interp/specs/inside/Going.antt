@@ -15,7 +15,7 @@ use Rattle.wasm_ast.specs.declared.plain.Plain.{Plain}
 use Rattle.wasm_ast.specs.declared.plain.Plain.TheVariants as plain
 use Rattle.wasm_ast.specs.Code.{Code}
 use Rattle.wasm_ast.specs.Numeric.{bits_of}
-use Rattle.numeric_values.specs.Operations.{division_traps}
+use Rattle.semantics.specs.Operations.{division_traps}
 use Rattle.wasm_ast.specs.Widths.{load_width, store_width}
 use Rattle.verified.specs.declared.call.TheConstants.{AGGREGATORS}
 use Rattle.verified.specs.declared.imports.HostCall.{HostCall}

@@ -1,6 +1,6 @@
 use Rattle.std.proofs.Common.{inl, inr, subst}
 use Rattle.std.specs.String.{string_bytes}
-use Rattle.graph_import.specs.Import.{IsImport, format_in}
+use Rattle.conversions.specs.graph_import.Import.{IsImport, format_in}
 use Rattle.sources.proofs.Faults.{is_fault}
 use Rattle.conversions.proofs.importing.made_in.Goals as goal
 

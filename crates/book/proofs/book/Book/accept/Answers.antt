@@ -2,8 +2,7 @@ use Rattle.std.proofs.Common.{◌≡◌, true, subst, rules}
 use Rattle.control.specs.Machine.{Machine, is_running}
 use Rattle.control.specs.Events.{Heard, accepted, on_event}
 use Rattle.control.specs.Events.Stamp.{DoneBy, FailedBy, JoinedBy, LostBy, Ticked}
-use Rattle.events.specs.Events.{stamp_of}
-use Rattle.control.specs.Stamps.{done_out}
+use Rattle.control.specs.Stamps.{done_out, stamp_of}
 use Rattle.book.proofs.Steps.{accepted_on, on_event_steady, same_step}
 use Rattle.book.proofs.book.Book.accept.Goals as goal
 

@@ -1,13 +1,12 @@
 use Rattle.std.proofs.Common.{◌≡◌, sym, ℕ, refl, ◌∙◌, ap}
 use Rattle.job_state.specs.Stamps.{DoneStamp}
 use Rattle.control.specs.declared.answer.Answer.TheVariants.{Ended}
-use Rattle.events.specs.declared.event.Event.{Event}
-use Rattle.events.specs.declared.event.Event.TheVariants as event
+use Rattle.control.specs.declared.event.Event.{Event}
+use Rattle.control.specs.declared.event.Event.TheVariants as event
 use Rattle.control.specs.Machine.{Machine}
 use Rattle.control.specs.Events.{Heard, accepted, after_end, reply_of}
 use Rattle.control.specs.Events.Stamp.{DoneBy}
-use Rattle.events.specs.Events.{stamp_of}
-use Rattle.control.specs.Stamps.{done_out}
+use Rattle.control.specs.Stamps.{done_out, stamp_of}
 use Rattle.book.proofs.Steps.{accepted_over, plain, plain_step}
 use Rattle.book.proofs.book.Book.note_after_end.Goals as goal
 

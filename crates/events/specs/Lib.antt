@@ -1,2 +1,0 @@
--- What an event is in numbers.
-pub mod Events

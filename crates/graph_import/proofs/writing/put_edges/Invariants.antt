@@ -1,6 +1,0 @@
-use Rattle.std.proofs.Common.{◌≡◌, ◌++◌, string_bytes, take}
-use Rattle.graph_import.specs.Graph.{edge_lines}
-use Rattle.graph_import.proofs.writing.put_edges.Given as goal
-
-abbrev pub invariant-loop-edge : goal.invariant-loop-edge
-invariant-loop-edge l = string_bytes l.text ≡ string_bytes l.initial.text ++ edge_lines (take l.edge-index l.edges)

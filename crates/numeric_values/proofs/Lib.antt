@@ -1,2 +1,0 @@
-mod Rotations
-mod Divisions

@@ -1,7 +1,0 @@
-use Rattle.std.proofs.Common.{◌∙◌, w64}
-use Rattle.std.proofs.Math.Nat.{mod-mod}
-use Rattle.numeric_values.proofs.Rotations.{rotl_is}
-use Rattle.numeric_values.proofs.i64.i64_rotl.Goals as goal
-
-pub returns : goal.returns
-returns c = c.rotate_left.ensures ∙ rotl_is w64 _ _ c.ranges.x.fits ∙ rw mod-mod

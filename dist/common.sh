@@ -62,6 +62,15 @@ keep_freed_memory() {
     export MIMALLOC_PURGE_DELAY=${MIMALLOC_PURGE_DELAY:--1}
 }
 
+# Lets rt and its checks write temporary files to memory, which is quicker (docs/GATE.md), where that has room and may hold programs.
+# rt removes what a run of it that was killed has left there.
+write_to_memory() {
+    local memory=/dev/shm room
+    [ -z "${TMPDIR:-}" ] && [ -w "$memory" ] && ! grep -q "^[^ ]* $memory .*noexec" /proc/mounts || return 0
+    room=$(df --output=avail -BG "$memory" 2>/dev/null | tail -n 1 | tr -dc 0-9)
+    if [ "${room:-0}" -ge 8 ] && [ "$(free_memory)" -ge 20 ]; then export TMPDIR=$memory; fi
+}
+
 # Stops with status 1 where Rattle's kit is missing.
 require_kit() {
     if ! command -v rt >/dev/null; then
@@ -92,7 +101,7 @@ prove_copy() {
     done
     (cd "$top" && cp -r --parents "${parts[@]}" "$copy/")
     printf '^%s:\n' $names | grep -f - "$top/crates.txt" >"$copy/crates.txt"
-    (cd "$copy" && keep_freed_memory && exec rt ci)
+    (cd "$copy" && keep_freed_memory && write_to_memory && exec rt ci)
 }
 
 # Ends the jobs of this shell, each with all that it has started: each is in a process group of its own.
@@ -110,18 +119,27 @@ await_crates() {
     done
 }
 
-# Begins to prove all that pregel stands on, in folders below $1. Notes its two runs of rt in `runs`, and returns when two crates are left.
+# Proves each of these crates and all that it stands on, one crate after the other, in folders below $1.
+prove_each() {
+    local name room=$1
+    shift
+    for name in "$@"; do
+        prove_copy "$room/$name" "$name" || return
+    done
+}
+
+# Begins to prove all that pregel stands on, in folders below $1. Notes its jobs in `runs`, and returns when two crates are left.
 #
 # A run begins with the crates that have most lines of code above them. The threads of workers have few lines for what their proofs take, so
-# they would come last, and what stands on them would wait. So a second run, with one check at a time, has nothing else to do. Where both
-# come to a crate, one waits and takes what the other has proved.
+# they would come last, and what stands on them would wait. So a second job, with one check at a time, has nothing else to do than them and
+# the coordinator. Where both come to a crate, one waits and takes what the other has proved.
 begin_below() {
     local names
     mapfile -t names < <(crates_below pregel | grep -vx pregel)
     : >"$1/told"
     RT_JOBS=$(checks_that_fit) prove_copy "$1/below" "${names[@]}" > >(tee -a "$1/told") &
     runs+=($!)
-    RT_JOBS=1 prove_copy "$1/threads" worker_threads &
+    RT_JOBS=1 prove_each "$1" hub_ends worker_threads coordinator &
     runs+=($!)
     await_crates "${runs[0]}" "$1/told" $((${#names[@]} - 2)) || wait "${runs[0]}"
 }

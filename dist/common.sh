@@ -111,10 +111,14 @@ end_jobs() {
     wait
 }
 
-# Waits until the output of a run of rt, in the file $2, has told of $3 crates. Fails where the run, process $1, ends before.
+# Waits until the output of a run of rt, in the file $2, has told of all but $3 of the crates named after it. Fails where the run,
+# process $1, ends before.
 await_crates() {
-    while [ "$(grep -cE '^rt: [a-z_0-9]+ (proved|is kept)' "$2")" -lt "$3" ]; do
-        kill -0 "$1" 2>/dev/null || return
+    local run=$1 told=$2 left=$3 names
+    shift 3
+    names=$(IFS='|' && echo "$*")
+    while [ "$(grep -cE "^rt: ($names) (proved|is kept)" "$told")" -lt $(($# - left)) ]; do
+        kill -0 "$run" 2>/dev/null || return
         sleep 1
     done
 }
@@ -128,27 +132,32 @@ prove_each() {
     done
 }
 
-# Begins to prove all that pregel stands on, in folders below $1. Notes its jobs in `runs`, and returns when two crates are left.
+# Begins to prove all that pregel stands on, in folders below $1. Notes its jobs in `runs`, and returns when two crates but console are left.
 #
 # A run begins with the crates that have most lines of code above them. The threads of workers have few lines for what their proofs take, so
 # they would come last, and what stands on them would wait. So a second job, with one check at a time, has nothing else to do than them and
-# the coordinator. Where both come to a crate, one waits and takes what the other has proved.
+# the coordinator. What is proved last is console, when little else is left. So it has a run of its own, which gives its check two
+# processors. Where two runs come to a crate, one waits and takes what the other has proved.
 begin_below() {
-    local names
-    mapfile -t names < <(crates_below pregel | grep -vx pregel)
+    local names below_console
+    mapfile -t names < <(crates_below pregel | grep -vxE 'pregel|console')
+    mapfile -t below_console < <(crates_below console | grep -vx console)
     : >"$1/told"
     RT_JOBS=$(checks_that_fit) prove_copy "$1/below" "${names[@]}" > >(tee -a "$1/told") &
     runs+=($!)
     RT_JOBS=1 prove_each "$1" hub_ends worker_threads coordinator &
     runs+=($!)
-    await_crates "${runs[0]}" "$1/told" $((${#names[@]} - 2)) || wait "${runs[0]}"
+    await_crates "${runs[0]}" "$1/told" 2 "${below_console[@]}" || wait "${runs[0]}" || return
+    prove_copy "$1/console" console &
+    runs+=($!)
+    await_crates "${runs[0]}" "$1/told" 2 "${names[@]}" || wait "${runs[0]}"
 }
 
 # Proves all that the program stands on, and builds it in the folder $1/whole.
 #
 # A run of rt reckons with more memory than its checks take, and so with few at a time. Where RT_JOBS is set it does not, but then each
 # check has one processor. So where rt keeps what a run has proved, pregel has a run of its own, and its check gets two processors or
-# more. It looks at what is kept while the last two crates below it are proved.
+# more. It looks at what is kept while the last crates below it are proved.
 prove_in_stages() {
     local run runs=()
     set -m

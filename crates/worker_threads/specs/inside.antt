@@ -1,2 +1,3 @@
 pub mod Epochs
 pub mod Joins
+pub mod Works

@@ -3,14 +3,11 @@
 ghost use Rattle.std.specs.Prelude.{◌≡◌, [], false, map, vec_len, IfErr, IfOk};
 ghost use Rattle.job_state.specs.declared.fault.JobFault.TheVariants.{ThreadRefused};
 ghost use Rattle.hub_ends.specs.Hub.{AreNewPasses, IsNewPass, IsNewTicker, channels_of, staff};
-ghost use Rattle.hub_ends.specs.Passes.{IsReceipt, IsTickReceipt, handed_in, taken, ticked};
-ghost use Rattle.worker_loops.specs.Counted.{JoinsAfterLoss};
+ghost use Rattle.hub_ends.specs.Passes.{ticked};
 ghost use Rattle.worker_threads.specs.Threads.{AreOfGate, AreSpawned, AreThreadsOf, IsSpawned, IsSpawnedTicker};
-ghost use Rattle.hub_ends.specs.Verdicts.{AreUntold, heard_on, reads_on, sends_on, told_on};
-ghost use Rattle.worker_loops.specs.inside.Epochs.{IsSteady, IsSteadyTicker};
-ghost use Rattle.worker_loops.specs.inside.Joins.{HasJoined};
+ghost use Rattle.hub_ends.specs.Verdicts.{AreUntold, sends_on, told_on};
 ghost use Rattle.worker_threads.specs.inside.Joins.{AreLinked, line_of};
-ghost use Rattle.worker_loops.specs.inside.Returning.{HasReturned};
+ghost use Rattle.worker_threads.specs.inside.Works.{AreUnused, EndsTicks, EndsWork};
 
 use crate::thread_promises::{HubThreads, TickThread, TickerPromise, WorkerPromise, WorkerThread};
 use hub_ends::{CoordinatorEnds, TickPass, TickReceipt, VerdictSender, WorkerPass};
@@ -122,16 +119,9 @@ fn spawn_worker<'s, E, J: Origin + Send + Sync + 's, G: Gate + Sync + 's, R: Wai
     let promise = promise_of(gate, ends, pass.worker(), &sender);
     let work = move || -> Result<WorkerEnd<J>, JobFault>
         requires job { J.work ≡ job.now }
-        requires new { handed_in pass ≡ [] }
-        requires untaken { taken pass ≡ [] }
-        requires unheard { heard_on reader ≡ [] }
-        ensures whose { IfOk result (λ end. IsReceipt pass end.receipt) }
-        ensures joins { IfOk result (λ end. JoinsAfterLoss end.receipt) }
-        ensures counted { IfOk result HasJoined }
-        ensures returned { IfOk result (λ end. HasReturned J.work J.honest end.receipt) }
-        ensures steady { G.loses gate.entry.now ≡ false
-            → IfOk result (λ end. IsSteady end.receipt) }
-        ensures line { IfOk result (λ end. reads_on end.reader ≡ reads_on reader) }
+        requires unused { AreUnused pass reader }
+        ensures { IfOk result
+            (EndsWork J.work J.honest (G.loses gate.entry.now) pass reader) }
     { work_all(rt, alloc, job, gate, pass, reader) };
     match scope.spawn_with(promise, work) {
         Ok(thread) => Ok((thread, sender)),
@@ -177,9 +167,8 @@ fn spawn_ticker<'s, E, J: Origin + Send + Sync + 's, G: Gate + Sync + 's, R: Wai
         loses: gate.may_lose(),
     };
     let work = move || -> Result<TickReceipt<J>, JobFault>
-        requires new { ticked pass ≡ [] }
-        ensures whose { IfOk result (IsTickReceipt pass) }
-        ensures steady { G.loses gate.entry.now ≡ false → IfOk result IsSteadyTicker }
+        requires { ticked pass ≡ [] }
+        ensures { IfOk result (EndsTicks (G.loses gate.entry.now) pass) }
     { tick_all(rt, gate, pass) };
     match scope.spawn_with(promise, work) {
         Ok(thread) => Ok(thread),

@@ -2,3 +2,5 @@
 -- their receipts, and what the coordinator has after a job.
 pub mod Charges
 pub mod Settled
+-- what only mirrors the code, for its proofs
+pub mod inside

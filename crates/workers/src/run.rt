@@ -11,10 +11,11 @@ ghost use Rattle.coordinator.specs.Coordinator as lent;
 ghost use Rattle.workers.specs.Settled as settled;
 ghost use Rattle.hub_ends.specs.Hub.{HasByes, IsNewHubOf, IsSameHub, IsUnused, handed, received, staff};
 ghost use Rattle.coordinator.specs.Joining.{JoinedFrom, JoinedOn, JoinedOver};
-ghost use Rattle.worker_threads.specs.Threads.{AreThreadsOf, HasSettled, IsIdle};
+ghost use Rattle.worker_threads.specs.Threads.{AreThreadsOf, HasSettled};
 ghost use Rattle.hub_ends.specs.Verdicts.{AreUntold, sends_on, told_on};
 ghost use Rattle.coordinator.specs.inside.EventLoop.{IsUnspent};
 ghost use Rattle.worker_threads.specs.inside.Joins.{AreLinked};
+ghost use Rattle.workers.specs.inside.Spawned.{EndsSpawned};
 
 use book::{Book, Report};
 use checkpoint::{Device, Keep};
@@ -111,19 +112,8 @@ fn run_spawned<
     requires hub { IsNewHubOf J.work.settings.workers ends passes ticker }
     requires book { IsUnspent J.work book }
     requires keep { KeepsFor J.work J.honest (K.honest keep) (K.saved keep) (K.may_load keep) book }
-    ensures ran { WhereEnded result.2
-        (RanFromKeep K.honest K.saved K.may_load K.faults J.work J.honest book.entry
-        (received result.0) (handed result.0) keep result.2) }
-    ensures joins { WhereEnded result.2 (JoinedFrom J.work J.honest book.entry
-        (received result.0) (handed result.0) result.2) }
-    ensures byes { WhereEnded result.2 (HasByes (staff result.0) (received result.0)) }
-    ensures spent { IfOk result.2 (HasSpent (staff result.0) (received result.0)) }
-    ensures epoch { G.loses gate.now ≡ false → count_set book.entry.waiting ≡ 0
-        → IfOk result.2 (λ report. report.epoch ≡ book.entry.epoch) }
-    ensures settled { WhereEnded result.2 (HasSettled result.0 result.1) }
-    ensures idle { WhereRefused result.2 (IsIdle result.0) }
-    ensures refused { IfErr result.2 IsRunFault }
-    ensures hub { IsSameHub ends result.0 }
+    ensures { EndsSpawned K.honest K.saved K.may_load K.faults J.work J.honest
+        (G.loses gate.now) ends book.entry keep result.0 result.1 result.2 }
 {
     thread::scope(
         thread::scope_env(),
@@ -136,19 +126,8 @@ fn run_spawned<
             requires book { IsUnspent J.work book }
             requires keep { KeepsFor J.work J.honest (K.honest keep) (K.saved keep)
                 (K.may_load keep) book }
-            ensures ran { WhereEnded result.2
-                (RanFromKeep K.honest K.saved K.may_load K.faults J.work J.honest book.entry
-                (received result.0) (handed result.0) keep result.2) }
-            ensures joins { WhereEnded result.2 (JoinedFrom J.work J.honest book.entry
-                (received result.0) (handed result.0) result.2) }
-            ensures byes { WhereEnded result.2 (HasByes (staff result.0) (received result.0)) }
-            ensures spent { IfOk result.2 (HasSpent (staff result.0) (received result.0)) }
-            ensures epoch { G.loses gate.entry.now ≡ false → count_set book.entry.waiting ≡ 0
-                → IfOk result.2 (λ report. report.epoch ≡ book.entry.epoch) }
-            ensures settled { WhereEnded result.2 (HasSettled result.0 result.1) }
-            ensures idle { WhereRefused result.2 (IsIdle result.0) }
-            ensures refused { IfErr result.2 IsRunFault }
-            ensures hub { IsSameHub ends result.0 }
+            ensures { EndsSpawned K.honest K.saved K.may_load K.faults J.work J.honest
+                (G.loses gate.entry.now) ends book.entry keep result.0 result.1 result.2 }
         {
             let mut mine = ends;
             let mut keep = keep;

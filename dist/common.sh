@@ -132,24 +132,18 @@ prove_each() {
     done
 }
 
-# Begins to prove all that pregel stands on, in folders below $1. Notes its jobs in `runs`, and returns when two crates beside console are
-# left.
+# Begins to prove all that pregel stands on, in folders below $1. Notes its jobs in `runs`, and returns when two crates are left.
 #
-# A run begins with the crates that have most lines of code above them. The threads of workers have few lines for what their proofs take,
-# and explain has few at all. So they would come last, and what stands on them would wait. A second job, with one check at a time, has
-# nothing else to do than them and the coordinator. What is proved last is console, when little else is left. So it has a run of its own,
-# which gives its check two processors. Where two runs come to a crate, one waits and takes what the other has proved.
+# A run begins with the crates that have most lines of code above them. The threads of workers have few lines for what their proofs take.
+# So they would come last, and what stands on them would wait. A second job, with one check at a time, has nothing else to do than them and
+# what a run stands on. Where two runs come to a crate, one waits and takes what the other has proved.
 begin_below() {
-    local names below_console
-    mapfile -t names < <(crates_below pregel | grep -vxE 'pregel|console')
-    mapfile -t below_console < <(crates_below console | grep -vx console)
+    local names
+    mapfile -t names < <(crates_below pregel | grep -vx pregel)
     : >"$1/told"
     RT_JOBS=$(checks_that_fit) prove_copy "$1/below" "${names[@]}" > >(tee -a "$1/told") &
     runs+=($!)
-    RT_JOBS=1 prove_each "$1" hub_ends worker_threads coordinator explain &
-    runs+=($!)
-    await_crates "${runs[0]}" "$1/told" 2 "${below_console[@]}" || wait "${runs[0]}" || return
-    prove_copy "$1/console" console &
+    RT_JOBS=1 prove_each "$1" hub_ends worker_threads coordinator workers run_command &
     runs+=($!)
     await_crates "${runs[0]}" "$1/told" 2 "${names[@]}" || wait "${runs[0]}"
 }

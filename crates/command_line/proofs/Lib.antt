@@ -1,2 +1,3 @@
 pub mod Pregel
 pub mod Entries
+pub mod CommandRules

@@ -7,7 +7,7 @@ use Rattle.clap.specs.declared.error.kind.ErrorKind.TheVariants.{MissingSubcomma
 use Rattle.clap.specs.declared.parser.matches.ArgMatches.{ArgMatches}
 use Rattle.clap.proofs.OnLiterals.{clap_on_literals}
 use Rattle.command_line.specs.CommandLine.{AskedIn, IsRefusal, has_plus_in}
-use Rattle.usage.specs.Commands.{pregel}
+use Rattle.command_line.specs.Commands.{pregel}
 use Rattle.requests.specs.declared.request.Options.{Options}
 use Rattle.command_line.specs.inside.Matches.{IsRefusedIn}
 

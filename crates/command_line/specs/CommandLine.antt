@@ -11,7 +11,7 @@ use Rattle.clap.specs.declared.error.kind.ErrorKind.TheVariants.{MissingSubcomma
 use Rattle.clap.specs.declared.parser.matches.ValueSource.{ValueSource}
 use Rattle.clap.specs.declared.parser.matches.ValueSource.TheVariants.{CommandLine}
 use Rattle.job_state.specs.declared.settings.Settings.{Settings}
-use Rattle.usage.specs.Commands.{pregel, settings}
+use Rattle.command_line.specs.Commands.{pregel, settings}
 use Rattle.requests.specs.declared.request.Cores.{Cores}
 use Rattle.requests.specs.declared.request.ImportRequest.{ImportRequest}
 use Rattle.requests.specs.declared.request.JobRequest.{JobRequest}

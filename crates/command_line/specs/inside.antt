@@ -1,2 +1,3 @@
--- What the code finds in `clap`'s matches. No contract of a public function cites it.
+-- The models of the code's tables in `clap`, and what the code finds in its matches. No contract of a public function cites them.
+pub mod Tables
 pub mod Matches

@@ -4,9 +4,10 @@ ghost use Rattle.std.specs.Prelude.{◌≡◌, ◌∷◌, [], IfErr, IfOk, IsErr
 ghost use Rattle.std.specs.List.{list_any};
 ghost use Rattle.clap.specs.Words.{HasKind, app_of, fault_of, subcommand_rows_of};
 ghost use Rattle.command_line.specs.CommandLine.{AskedBy, AskedIn, AsksCores, AsksFor, AsksJob, AsksModule, GivesNumber, GivesSettings, IsRefusal, MayGiveNumber, has_plus, has_plus_in, is_given, is_set, is_signed, progress_in};
-ghost use Rattle.usage.specs.Commands.{pregel};
+ghost use Rattle.command_line.specs.Commands.{pregel};
 ghost use Rattle.command_line.specs.inside.Matches.{Finds, IsRefusedIn, rows_in};
 
+use crate::commands::pregel;
 use clap::error::ErrorKind;
 use clap::parser::ValueSource;
 use clap::{ArgMatches, Command, Error};
@@ -16,7 +17,6 @@ use requests::{
 };
 use std::alloc::Global;
 use std::convert::AsStr;
-use usage::pregel;
 
 // The names of the options with a number, which `clap` reads.
 static NUMBERS: [&str; 6] = ["parts", "workers", "every", "limit", "lease", "max-size"];

@@ -11,7 +11,7 @@ use Rattle.coordinator.specs.Steps.Move.{Hand, Take}
 use Rattle.coordinator.specs.Units.{cut, units_by}
 use Rattle.coordinator.specs.inside.EventLoop.{IsUnspent}
 use Rattle.hub_ends.specs.declared.message.Message.{Message}
-use Rattle.channels.specs.declared.order.Order.{Order}
+use Rattle.hub_ends.specs.declared.order.Order.{Order}
 use Rattle.coordinator.proofs.Faults.{begun_own, opened_own}
 use Rattle.coordinator.proofs.Spent.{Account, IsAccount, account, accepted_account, accepted_ending, accounts_after, is_faulty, rolling_account, spent_at, spent_sum}
 

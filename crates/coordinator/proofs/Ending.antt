@@ -15,14 +15,14 @@ use Rattle.book.specs.Calm.{NeverFails}
 use Rattle.control.specs.Events.{Heard, begun}
 use Rattle.control.specs.Machine.{Machine, has_answer, opened}
 use Rattle.coordinator.specs.JobAnswers.{HasSpent, IsAnswerAt, IsCalmReport, IsDriveFault, IsOpened, IsRunFault, IsTold, EndedOver, EndedOverKeep, EndedOverOwn, LoadsMadeAt, RanFrom, RanFromKeep, RanFromOver, RanOn, RanOnOver, RanOnOwn, WhereEnded, WhereOpened, WhereRefused, WhereRun, has_ended}
-use Rattle.channels.specs.Orders.{at}
+use Rattle.hub_ends.specs.Orders.{at}
 use Rattle.coordinator.specs.Joining.{JoinedFrom, JoinedOn, JoinedOver}
 use Rattle.coordinator.specs.Steps.{AreMoves, KeptAlong, Steps, after, events, hands}
 use Rattle.worker_loops.specs.Numbers.{outs_in, stamps_in}
 use Rattle.coordinator.specs.inside.EventLoop.{IsUnspent, StepsOver, is_own, is_own_fault}
 use Rattle.coordinator.specs.inside.Told.{StepsTold, ToldFrom}
 use Rattle.hub_ends.specs.declared.message.Message.{Message}
-use Rattle.channels.specs.declared.order.Order.{Order}
+use Rattle.hub_ends.specs.declared.order.Order.{Order}
 use Rattle.coordinator.proofs.Accounts.{begun_unspent, opened_unspent, spent_of}
 use Rattle.coordinator.proofs.Calm.{calm_begun, calm_opened}
 use Rattle.coordinator.proofs.Faults.{steps_own}

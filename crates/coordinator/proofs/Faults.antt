@@ -18,7 +18,7 @@ use Rattle.coordinator.specs.Steps.{Move, Steps, after, moved}
 use Rattle.coordinator.specs.inside.EventLoop.{is_own}
 use Rattle.coordinator.specs.Steps.Move.{Hand, Take}
 use Rattle.hub_ends.specs.declared.message.Message.{Message}
-use Rattle.channels.specs.declared.order.Order.{Order}
+use Rattle.hub_ends.specs.declared.order.Order.{Order}
 
 abbrev pub own : Machine → Bool
 own m = is_own m.ending

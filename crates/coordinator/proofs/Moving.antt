@@ -16,7 +16,7 @@ use Rattle.control.specs.Stamps.{stamp_of, task_out}
 use Rattle.book.specs.Saving.{IsKeptStep, KeepsFor}
 use Rattle.book.proofs.Keeps.{keeps_same}
 use Rattle.book.proofs.Counts.{kept_still}
-use Rattle.channels.specs.Orders.{at, tasks_in, with_order}
+use Rattle.hub_ends.specs.Orders.{at, tasks_in, with_order}
 use Rattle.coordinator.specs.JobAnswers.{IsLeftBy}
 use Rattle.coordinator.specs.Steps.{AreMoves, IsMove, KeptAlong, Move, Steps, after, event_of, events, hand_of, hands, moved}
 use Rattle.worker_loops.specs.Numbers.{outs_in, stamps_in}
@@ -27,11 +27,11 @@ use Rattle.coordinator.specs.inside.Told.{IsToldNext, StepsDue, StepsTold, due_b
 use Rattle.coordinator.specs.declared.event_loop.Due.{Due}
 use Rattle.hub_ends.specs.declared.message.Message.{Message}
 use Rattle.hub_ends.specs.declared.message.Message.TheVariants as message
-use Rattle.channels.specs.declared.order.Order.{Order}
-use Rattle.channels.specs.declared.order.Order.TheVariants.{Do}
+use Rattle.hub_ends.specs.declared.order.Order.{Order}
+use Rattle.hub_ends.specs.declared.order.Order.TheVariants.{Do}
 use Rattle.hub_ends.specs.declared.message.Sender.{Sender}
 use Rattle.hub_ends.specs.Verdicts.{AreUntold}
-use Rattle.channels.proofs.Handing.{at_set_else, at_set_here}
+use Rattle.hub_ends.proofs.Handed.{at_set_else, at_set_here}
 use Rattle.worker_loops.proofs.Numbers.{outs_task, stamps_bye, stamps_event}
 
 -- ---- lists of moves

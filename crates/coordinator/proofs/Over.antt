@@ -2,8 +2,8 @@
 use Rattle.std.proofs.Common.{◌≡◌, ◌<◌, ◌∙◌, ℕ, Bool, List, ap, subst}
 use Rattle.superstep.specs.Job.{Work}
 use Rattle.control.specs.Machine.{Machine}
-use Rattle.channels.specs.Orders.{at, stops, tasks_in}
-use Rattle.channels.specs.Protocol.{has_bye}
+use Rattle.hub_ends.specs.Orders.{at, stops, tasks_in}
+use Rattle.hub_ends.specs.Protocol.{has_bye}
 use Rattle.hub_ends.specs.Hub.{IsSameHub, handed, received}
 use Rattle.coordinator.specs.Steps.{Steps}
 use Rattle.coordinator.specs.inside.EventLoop.{IsOver}

@@ -2,8 +2,8 @@
 use Rattle.std.proofs.lemmas.Bool.Decides.{eqb_tells}
 use Rattle.std.proofs.Common.{◌≡◌, ◌≢◌, ◌∙◌, ℕ, ◌+◌, ◌<◌, ◌≤◌, Bool, cond, List, [], ◌∷◌, ◌++◌, length, set, Some, None, Result, Ok, Err, OnOk, eq-eqb, ne_eqb, ap, refl, sym, arith, ◌⊎◌, ⊎_elim, inl, inr}
 use mathlib.Core.List.{append-nil}
-use Rattle.channels.specs.Protocol.{of}
-use Rattle.channels.proofs.Handing.{at_set_else, at_set_here}
+use Rattle.hub_ends.specs.Protocol.{of}
+use Rattle.hub_ends.proofs.Handed.{at_set_else, at_set_here}
 use Rattle.hub_ends.specs.Verdicts.{told_to}
 use Rattle.coordinator.specs.inside.Told.{IsToldNext, due_to}
 use Rattle.coordinator.specs.declared.event_loop.Due.{Due}

@@ -2,12 +2,12 @@
 use Rattle.std.specs.Prelude.{◌≡◌, ℕ, Option, Some, None, List, [], true}
 use Rattle.std.specs.Global.{Vec}
 use Rattle.hub_ends.specs.Hub as hub
-use Rattle.channels.specs.Orders.{at, stops}
-use Rattle.channels.specs.Protocol.{has_bye}
+use Rattle.hub_ends.specs.Orders.{at, stops}
+use Rattle.hub_ends.specs.Protocol.{has_bye}
 use Rattle.coordinator.specs.declared.coordinator.Coordinator.{Coordinator}
 use Rattle.hub_ends.specs.declared.coordinator_ends.CoordinatorEnds.{CoordinatorEnds}
 use Rattle.hub_ends.specs.declared.message.Message.{Message}
-use Rattle.channels.specs.declared.order.Order.{Order}
+use Rattle.hub_ends.specs.declared.order.Order.{Order}
 use Rattle.hub_ends.specs.declared.pass.TickPass.{TickPass}
 use Rattle.hub_ends.specs.declared.pass.TickReceipt.{TickReceipt}
 use Rattle.hub_ends.specs.declared.pass.WorkerPass.{WorkerPass}

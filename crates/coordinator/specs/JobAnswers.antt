@@ -14,13 +14,13 @@ use Rattle.control.specs.Events.{Heard, begun}
 use Rattle.control.specs.Machine.{Machine, opened}
 use Rattle.book.specs.Saving.{IsKeptStep, IsLoadResult, IsMadeAt, KeepsFor}
 use Rattle.book.specs.Calm.{IsCalmAt, NeverFails}
-use Rattle.channels.specs.Orders.{at}
+use Rattle.hub_ends.specs.Orders.{at}
 use Rattle.worker_loops.specs.Returns.{IsWorkOn, events_by}
 use Rattle.coordinator.specs.Steps.{AreMoves, KeptAlong, Move, after, events, hands}
 use Rattle.worker_loops.specs.Numbers.{outs_in, stamps_in}
 use Rattle.coordinator.specs.Units.{cut, units_by}
 use Rattle.hub_ends.specs.declared.message.Message.{Message}
-use Rattle.channels.specs.declared.order.Order.{Order}
+use Rattle.hub_ends.specs.declared.order.Order.{Order}
 
 -- ---- the answer
 

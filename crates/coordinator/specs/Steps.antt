@@ -5,10 +5,10 @@ use Rattle.control.specs.declared.control.Out.{Out}
 use Rattle.control.specs.Machine.{Machine, hand, handed, task_of}
 use Rattle.control.specs.Events.{Heard, Stamp, accepted}
 use Rattle.book.specs.Book.{IsQuietAt}
-use Rattle.channels.specs.Orders.{at}
+use Rattle.hub_ends.specs.Orders.{at}
 use Rattle.worker_loops.specs.Numbers.{outs_in, stamps_in}
 use Rattle.hub_ends.specs.declared.message.Message.{Message}
-use Rattle.channels.specs.declared.order.Order.{Order}
+use Rattle.hub_ends.specs.declared.order.Order.{Order}
 
 -- ---- assignments and events
 

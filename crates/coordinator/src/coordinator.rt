@@ -6,7 +6,7 @@ ghost use Rattle.checkpoint.specs.Keep.{LoadsNothingElse};
 ghost use Rattle.book.specs.Calm.{NeverFails};
 ghost use Rattle.coordinator.specs.JobAnswers.{HasSpent, IsCalmReport, IsDriveFault, IsLeftBy, IsOpened, EndedOver, EndedOverKeep, WhereEnded};
 ghost use Rattle.hub_ends.specs.Messages.{sender_of};
-ghost use Rattle.channels.specs.declared.order.Order.TheVariants.{Do};
+ghost use Rattle.hub_ends.specs.declared.order.Order.TheVariants.{Do};
 
 use crate::event_loop::drive;
 use book::{Book, Report};
@@ -37,7 +37,7 @@ impl<J: Origin> Drop for Coordinator<J> {
 impl<J: Origin> Coordinator<J> {
     ghost use Rattle.coordinator.specs.Coordinator.{IsReceiptOf, IsSameHub, IsSettledBy, IsStopped, IsTickReceiptOf, IsTickerSettledBy, IsUnused, handed, received, staff};
     ghost use Rattle.hub_ends.specs.Hub.{HasByes};
-    ghost use Rattle.channels.specs.Orders.{at, tasks_in, with_order};
+    ghost use Rattle.hub_ends.specs.Orders.{at, tasks_in, with_order};
     ghost use Rattle.hub_ends.specs.Passes.{handed_in_by, taken_by, ticked_by};
 
     /// Sends a task to a worker. It waits while the worker's channel is full. `Closed`: the worker's end is gone, or

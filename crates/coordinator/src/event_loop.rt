@@ -9,12 +9,11 @@ ghost use Rattle.hub_ends.specs.Verdicts.{AreUntold, sends_on, told_on};
 ghost use Rattle.coordinator.specs.inside.EventLoop.{IsOver, IsUnspent};
 ghost use Rattle.coordinator.specs.inside.Told.{IsToldNext, StepsDue, StepsTold, ToldFrom, due_by, lost_in};
 ghost use Rattle.hub_ends.specs.Hub.{HasByes, IsSameHub, IsStopped, IsUnused, handed, received, staff};
-ghost use Rattle.channels.specs.Orders.{at, tasks_in};
+ghost use Rattle.hub_ends.specs.Orders.{at, tasks_in};
 
 use book::{Answer, Book, Event, JobStatus, Report};
-use channels::Closed;
 use checkpoint::{Device, Keep};
-use hub_ends::{CoordinatorEnds, Message, VerdictSender};
+use hub_ends::{Closed, CoordinatorEnds, Message, VerdictSender};
 use std::sync::Wait;
 use std::thread::Threads;
 use superstep::{JobFault, Origin};

@@ -2,9 +2,10 @@
 #![tactic(auto)]
 
 mod advice;
+mod choosing;
 mod explaining;
 mod listing;
 mod module_place;
 mod places;
 
-pub use explaining::{invalid, no_module, no_text, unbounded};
+pub use choosing::{explanation, is_explained};

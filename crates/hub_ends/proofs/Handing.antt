@@ -1,9 +1,9 @@
 -- What stays of a hub.
 use Rattle.std.proofs.Common.{◌≡◌, ◌∙◌, List, length, refl, arith}
-use Rattle.channels.specs.Channel.{Channel}
-use Rattle.channels.specs.TaskChannels.{sent_on}
-use Rattle.channels.specs.declared.order.Order.{Order}
-use Rattle.channels.proofs.Handing.{length_map}
+use Rattle.hub_ends.specs.Channel.{Channel}
+use Rattle.hub_ends.specs.TaskChannels.{sent_on}
+use Rattle.hub_ends.specs.declared.order.Order.{Order}
+use Rattle.hub_ends.proofs.Handed.{length_map}
 use Rattle.hub_ends.specs.Hub.{Channels, IsSameHub, handed, staff}
 use Rattle.hub_ends.specs.declared.coordinator_ends.CoordinatorEnds.{CoordinatorEnds}
 use Rattle.hub_ends.specs.declared.message.Message.{Message}

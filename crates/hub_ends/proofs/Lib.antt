@@ -1,3 +1,10 @@
 pub mod Handing
 pub mod Opening
 pub mod Verdicts
+pub mod Byes
+pub mod Crossing
+pub mod CrossingFields
+pub mod FlatCrossing
+pub mod Handed
+pub mod InOrder
+pub mod ProtocolSteps

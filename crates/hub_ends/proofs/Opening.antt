@@ -2,11 +2,11 @@
 use Rattle.std.proofs.Common.{◌≡◌, ℕ, zero, suc, ◌+◌, List, [], ◌∷◌, ◌++◌, map, length, slice_get, slice_index_or, Some, sym, refl, subst, arith}
 use Rattle.hub_ends.specs.Hub.{AreNewPasses, Channels, HaveRoomFor, IsNewPass}
 use Rattle.hub_ends.specs.declared.message.Message.{Message}
-use Rattle.channels.specs.declared.order.Order.{Order}
+use Rattle.hub_ends.specs.declared.order.Order.{Order}
 use Rattle.hub_ends.specs.declared.pass.WorkerPass.{WorkerPass}
-use Rattle.channels.specs.Channel.{Channel, room_of}
+use Rattle.hub_ends.specs.Channel.{Channel, room_of}
 use Rattle.hub_ends.specs.inside.Opening.{IsNewPassOf}
-use Rattle.channels.proofs.Handing.{get_end, get_more}
+use Rattle.hub_ends.proofs.Handed.{get_end, get_more}
 
 -- one more that nothing was handed to
 pub at_more : {A C : Type 0} (f : A → List C) (xs : List A) (x : A) → f x ≡ [] → ((w : ℕ) → slice_index_or (map f xs) w [] ≡ []) → (w : ℕ) → slice_index_or (map f (xs ++ x ∷ [])) w [] ≡ []

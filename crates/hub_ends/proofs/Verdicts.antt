@@ -1,7 +1,7 @@
 -- What is told of losses, and what is heard of it.
 use Rattle.std.proofs.Common.{◌≡◌, ◌∙◌, ℕ, ◌+◌, false, List, [], ◌∷◌, ◌++◌, map, Result, Ok, Err, OnOk, ap, refl, sym, subst}
 use mathlib.Core.List.{IsPrefix, append-nil, map-append}
-use Rattle.channels.specs.Protocol.{has_bye, of}
+use Rattle.hub_ends.specs.Protocol.{has_bye, of}
 use Rattle.hub_ends.specs.Verdicts.{from_coordinator, never_closes, was_counted}
 use Rattle.hub_ends.specs.declared.verdict.Verdict.{Verdict}
 

@@ -2,21 +2,21 @@
 use Rattle.std.specs.Global.{Vec}
 use Rattle.std.specs.Prelude.{◌≡◌, ◌<◌, ◌+◌, ℕ, true, List, [], ◌∷◌, map, vec_len, slice_get, Some}
 use Rattle.control.specs.declared.event.Event.{Event}
-use Rattle.channels.specs.ChannelEnds.{channel_of, received_by, source_of}
+use Rattle.hub_ends.specs.ChannelEnds.{channel_of, received_by, source_of}
 use Rattle.hub_ends.specs.Messages.{closes, sender_of}
-use Rattle.channels.specs.TaskChannels.{channel_on, sent_on}
-use Rattle.channels.specs.Orders.{at, coordinator, stops}
+use Rattle.hub_ends.specs.TaskChannels.{channel_on, sent_on}
+use Rattle.hub_ends.specs.Orders.{at, coordinator, stops}
 use Rattle.hub_ends.specs.Passes as pass
-use Rattle.channels.specs.Protocol.{IsOnceInOrder, has_bye, of}
+use Rattle.hub_ends.specs.Protocol.{IsOnceInOrder, has_bye, of}
 use Rattle.hub_ends.specs.declared.coordinator_ends.CoordinatorEnds.{CoordinatorEnds}
 use Rattle.hub_ends.specs.declared.message.Message.{Message}
 use Rattle.hub_ends.specs.declared.message.Message.TheVariants as message
-use Rattle.channels.specs.declared.order.Order.{Order}
+use Rattle.hub_ends.specs.declared.order.Order.{Order}
 use Rattle.hub_ends.specs.declared.pass.TickPass.{TickPass}
 use Rattle.hub_ends.specs.declared.pass.TickReceipt.{TickReceipt}
 use Rattle.hub_ends.specs.declared.pass.WorkerPass.{WorkerPass}
 use Rattle.hub_ends.specs.declared.pass.WorkerReceipt.{WorkerReceipt}
-use Rattle.channels.specs.Channel.{Channel, room_of}
+use Rattle.hub_ends.specs.Channel.{Channel, room_of}
 
 -- the channels of a hub: that of events, and that of each worker's tasks
 pub record Channels (J : Type 0) : Type 0 where

@@ -1,8 +1,8 @@
 -- What passes and receipts show.
 use Rattle.std.specs.Prelude.{◌≡◌, ℕ, List}
-use Rattle.channels.specs.ChannelEnds.{IsSameReader, IsSameSender, received_by, sent_by}
+use Rattle.hub_ends.specs.ChannelEnds.{IsSameReader, IsSameSender, received_by, sent_by}
 use Rattle.hub_ends.specs.declared.message.Message.{Message}
-use Rattle.channels.specs.declared.order.Order.{Order}
+use Rattle.hub_ends.specs.declared.order.Order.{Order}
 use Rattle.hub_ends.specs.declared.pass.TickPass.{TickPass}
 use Rattle.hub_ends.specs.declared.pass.TickReceipt.{TickReceipt}
 use Rattle.hub_ends.specs.declared.pass.WorkerPass.{WorkerPass}

@@ -1,7 +1,7 @@
 -- What a worker is told of its losses.
 use Rattle.std.specs.Prelude.{◌≡◌, ℕ, Bool, false, List, [], map, slice_index_or}
-use Rattle.channels.specs.Channel.{Channel}
-use Rattle.channels.specs.ChannelEnds.{channel_of, received_by, sent_by, source_of}
+use Rattle.hub_ends.specs.Channel.{Channel}
+use Rattle.hub_ends.specs.ChannelEnds.{channel_of, received_by, sent_by, source_of}
 use Rattle.hub_ends.specs.declared.verdict.Verdict.{Verdict}
 use Rattle.hub_ends.specs.declared.verdict.VerdictReader.{VerdictReader}
 use Rattle.hub_ends.specs.declared.verdict.VerdictSender.{VerdictSender}

@@ -1,15 +1,18 @@
 //! The coordinator's ends of all channels.
 
 ghost use Rattle.std.specs.Prelude.{◌≡◌, ◌<◌, ◌≤◌, ◌+◌, ◌++◌, ◌∷◌, [], ℕ, false, true, vec_len, slice_index_or, IfOk, OnOk, OnErr};
-ghost use Rattle.channels.specs.ChannelEnds.{received_by, senders_of};
+ghost use Rattle.hub_ends.specs.ChannelEnds.{received_by, senders_of};
 ghost use Rattle.hub_ends.specs.Messages.{closes, sender_of};
-ghost use Rattle.channels.specs.Orders.{stops};
-ghost use Rattle.channels.specs.Protocol.{has_bye, of};
-ghost use Rattle.channels.specs.declared.order.Order.TheVariants.{Do};
+ghost use Rattle.hub_ends.specs.Orders.{stops};
+ghost use Rattle.hub_ends.specs.Protocol.{has_bye, of};
+ghost use Rattle.hub_ends.specs.declared.order.Order.TheVariants.{Do};
 
+use crate::channel_ends::ReceivingEnd;
+use crate::closed::Closed;
 use crate::message::Message;
+use crate::order::Order;
 use crate::pass::{TickReceipt, WorkerReceipt};
-use channels::{Closed, Order, ReceivingEnd, TaskChannel};
+use crate::task_channel::TaskChannel;
 use std::alloc::Global;
 use std::sync::atomic::{AtomicBool, Ordering};
 use std::sync::{Arc, Wait};
@@ -45,7 +48,7 @@ impl<J: Origin> Drop for CoordinatorEnds<J> {
 impl<J: Origin> CoordinatorEnds<J> {
     ghost use Rattle.hub_ends.specs.Passes.{handed_in_by, taken_by, ticked_by};
     ghost use Rattle.hub_ends.specs.Hub.{HasByes, IsReceiptOn, IsSameHub, IsSettled, IsStopped, IsTickReceiptOn, IsTickerSettled, channels_of, handed, received, staff};
-    ghost use Rattle.channels.specs.Orders.{at, tasks_in, with_order};
+    ghost use Rattle.hub_ends.specs.Orders.{at, tasks_in, with_order};
 
     /// Returns the number of workers.
     pub fn workers(&self) -> usize

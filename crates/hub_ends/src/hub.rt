@@ -2,14 +2,15 @@
 
 ghost use Rattle.std.specs.Prelude.{◌≡◌, ◌≤◌, ◌+◌, [], IfOk, OnOk};
 ghost use Rattle.hub_ends.specs.Hub.{HasRooms as HasRoomsOf, IsNewHubOf, channels_of};
-ghost use Rattle.channels.specs.Channel.{room_of};
-ghost use Rattle.channels.specs.TaskChannels.{channel_on, sent_on};
-ghost use Rattle.channels.specs.ChannelEnds.{IsNewSender, channel_of, received_by, senders_of, source_of};
+ghost use Rattle.hub_ends.specs.Channel.{room_of};
+ghost use Rattle.hub_ends.specs.TaskChannels.{channel_on, sent_on};
+ghost use Rattle.hub_ends.specs.ChannelEnds.{IsNewSender, channel_of, received_by, senders_of, source_of};
 
+use crate::channel_ends::{ReceivingEnd, SendingEnd};
 use crate::coordinator_ends::CoordinatorEnds;
 use crate::message::Message;
 use crate::pass::{TickPass, WorkerPass};
-use channels::{ReceivingEnd, SendingEnd, TaskChannel};
+use crate::task_channel::TaskChannel;
 use std::alloc::{AllocError, Global};
 use std::sync::Arc;
 use std::sync::atomic::AtomicBool;

@@ -1,6 +1,6 @@
 //! Messages to the coordinator, and their senders.
 
-use channels::Signed;
+use crate::protocol::Signed;
 use control::Event;
 use superstep::Origin;
 

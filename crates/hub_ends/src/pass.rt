@@ -3,15 +3,16 @@
 ghost use Rattle.std.specs.Prelude.{◌≡◌, ◌+◌, ◌++◌, ◌∷◌, [], false, IfOk, IfErr, OnOk, OnErr};
 ghost use Rattle.job_state.specs.declared.fault.JobFault.TheVariants.{Closed};
 ghost use Rattle.control.specs.declared.event.Event.TheVariants.{Tick};
-ghost use Rattle.channels.specs.ChannelEnds.{number_of, sent_by};
+ghost use Rattle.hub_ends.specs.ChannelEnds.{number_of, sent_by};
 ghost use Rattle.hub_ends.specs.Messages.{closes, event_sender};
-ghost use Rattle.channels.specs.Orders.{order_of};
-ghost use Rattle.channels.specs.Protocol.{has_bye};
+ghost use Rattle.hub_ends.specs.Orders.{order_of};
+ghost use Rattle.hub_ends.specs.Protocol.{has_bye};
 ghost use Rattle.hub_ends.specs.declared.message.Message.TheVariants.{Bye, Event as Happened};
 ghost use Rattle.hub_ends.specs.declared.message.Sender.TheVariants.{Ticker, Worker};
 
+use crate::channel_ends::{ReceivingEnd, SendingEnd};
 use crate::message::{Message, Sender};
-use channels::{Order, ReceivingEnd, SendingEnd};
+use crate::order::Order;
 use control::Event;
 use std::alloc::Global;
 use std::sync::atomic::{AtomicBool, Ordering};

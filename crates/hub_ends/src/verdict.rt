@@ -1,9 +1,11 @@
 //! The channel on which a worker hears which of its losses were counted.
 
 ghost use Rattle.std.specs.Prelude.{◌≡◌, ◌++◌, ◌∷◌, [], IfOk, OnOk};
-ghost use Rattle.channels.specs.ChannelEnds.{number_of};
+ghost use Rattle.hub_ends.specs.ChannelEnds.{number_of};
 
-use channels::{Closed, ReceivingEnd, SendingEnd, Signed};
+use crate::channel_ends::{ReceivingEnd, SendingEnd};
+use crate::closed::Closed;
+use crate::protocol::Signed;
 use std::alloc::{AllocError, Global};
 use std::sync::Wait;
 use superstep::JobFault;

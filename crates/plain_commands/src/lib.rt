@@ -1,5 +1,5 @@
 //! What the commands over files do without a job in threads: calls, replays, bounds. Also the folder of a run, and its notes, report
-//! and chart. Crate `conversions` makes files of others. Crate `console` runs jobs and chooses the command.
+//! and chart. Crate `conversions` makes files of others. Crate `run_command` runs jobs, and `pregel` chooses the command.
 #![tactic(auto)]
 
 mod bounds;

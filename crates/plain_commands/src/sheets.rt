@@ -6,8 +6,7 @@ ghost use Rattle.plain_commands.specs.inside.SheetFiles.{TriesChart, TriesReport
 
 use crate::noting::RunNotes;
 use requests::{Request, RunRequest};
-use run_chart::svg_text;
-use run_report::{JobFiles, RunReport, json_text};
+use run_report::{JobFiles, RunReport, json_text, svg_text};
 use sources::{CommandFault, Files, write};
 use std::alloc::Global;
 

@@ -3,7 +3,7 @@ use Rattle.std.proofs.Common.{◌≡◌, ℕ, Bool, true, false, List, MatchBool
 use Rattle.requests.specs.declared.request.Request.{Request}
 use Rattle.requests.specs.declared.request.Request.TheVariants as request
 use Rattle.sources.specs.Disk.{Disk, Stays}
-use Rattle.console.specs.FileCommands.{MayPrint, writes_file}
+use Rattle.pregel.specs.FileCommands.{MayPrint, writes_file}
 use Rattle.plain_commands.specs.Sheets.{MayWriteSheets, asks_sheets}
 use Rattle.plain_commands.specs.declared.noting.RunNotes.{RunNotes}
 use Rattle.plain_commands.proofs.SheetFiles.{may_write_later}

@@ -1,2 +1,4 @@
+pub mod Printing
+mod Noted
 pub mod Asides
 pub mod Machine

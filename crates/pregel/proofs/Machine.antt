@@ -6,7 +6,7 @@ use Rattle.requests.specs.declared.request.Request.{Request}
 use Rattle.requests.specs.declared.request.Request.TheVariants as request
 use Rattle.requests.specs.Machine.{options_on, request_on}
 use Rattle.sources.specs.Disk.{Disk, Stays}
-use Rattle.console.specs.FileCommands.{writes_file}
+use Rattle.pregel.specs.FileCommands.{writes_file}
 use Rattle.plain_commands.specs.Sheets.{asks_sheets}
 use Rattle.session.specs.declared.serving.ServeFault.{ServeFault}
 use Rattle.session.specs.declared.serving.ServeFault.TheVariants as fault

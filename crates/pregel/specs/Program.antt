@@ -9,7 +9,7 @@ use Rattle.sources.specs.Disk.{Disk}
 use Rattle.call_lines.specs.OutputLines.{line}
 use Rattle.sources.specs.Refusal.{fault_text, status_of}
 use Rattle.sources.specs.declared.fault.CommandFault.{CommandFault}
-use Rattle.console.specs.FileCommands.{Answered, IsCause, MayPrint, writes_file}
+use Rattle.pregel.specs.FileCommands.{Answered, IsCause, MayPrint, writes_file}
 use Rattle.plain_commands.specs.Sheets.{IsStatusOf, MayWriteSheets, asks_sheets}
 use Rattle.plain_commands.specs.declared.noting.RunNotes.{RunNotes}
 use Rattle.session.specs.declared.serving.ServeFault.{ServeFault}

@@ -3,12 +3,12 @@
 ghost use Rattle.std.specs.Prelude.{◌≡◌, ℕ, List, false};
 ghost use Rattle.requests.specs.Machine.{options_on};
 ghost use Rattle.sources.specs.Disk.{Stays};
-ghost use Rattle.console.specs.FileCommands.{writes_file};
+ghost use Rattle.pregel.specs.FileCommands.{writes_file};
 ghost use Rattle.plain_commands.specs.Sheets.{asks_sheets};
 ghost use Rattle.pregel.specs.Program.{CommandTold, Does, IsCommandTold, may_write};
 
+use crate::file_commands::command;
 use checkpoint::{Device, Folder};
-use console::command;
 use line_text::WriteFailure;
 use plain_commands::{RunNotes, write_sheets};
 use requests::{Options, Request};
@@ -24,7 +24,7 @@ use workers::NoLoss;
 
 /// Does what the options ask for on a machine that has so many processors, and answers the status for the process: it serves a
 /// session from the reader to the writer, whose jobs run in threads and lose no worker, and answers 0; or carries out a command,
-/// writes the report and the chart of a run where these are asked for, and answers what `console::command` and `write_sheets` do. A
+/// writes the report and the chart of a run where these are asked for, and answers what `command` and `write_sheets` do. A
 /// run shows in the view how far it has come.
 ///
 /// It fails as `serve` does, and with `Write` where the writer failed as a command was answered.

@@ -7,7 +7,7 @@ ghost use Rattle.serde_json.specs.Read.{read};
 ghost use Rattle.serde_json.specs.View.{members_view, view};
 ghost use Rattle.serde_json.specs.Written.{compact_text};
 
-use crate::SuperstepCounts;
+use crate::counts::SuperstepCounts;
 use crate::report::{JobFiles, Outcome, RunReport, RunSettings};
 use serde_json::{Map, Value, put};
 use std::alloc::{AllocError, Global};

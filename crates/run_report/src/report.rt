@@ -1,6 +1,6 @@
 //! What is reported of a run.
 
-use crate::SuperstepCounts;
+use crate::counts::SuperstepCounts;
 
 /// How the job was run.
 #[derive(Clone, Copy)]

@@ -14,19 +14,19 @@ use Rattle.sources.specs.Disk.{Disk, unknown as any_disk}
 use Rattle.sources.specs.Source.{RefusesLoad}
 use Rattle.sources.specs.Jobs.{IsJobOf, RefusesSettings}
 use Rattle.sources.specs.Reading.{IsLoadedAt, IsNoGraphAt, IsReadAt, IsRefusedAt}
-use Rattle.session_lines.specs.declared.run_state.RunState.{RunState}
-use Rattle.session_lines.specs.declared.run_state.RunState.TheVariants as state
+use Rattle.session.specs.declared.run_state.RunState.{RunState}
+use Rattle.session.specs.declared.run_state.RunState.TheVariants as state
 use Rattle.session.specs.declared.held_job.HeldJob.{HeldJob}
-use Rattle.session_lines.specs.declared.reply.Reply.{Reply}
+use Rattle.session.specs.declared.reply.Reply.{Reply}
 use Rattle.book.specs.declared.report.Report.{Report}
-use Rattle.session_lines.specs.Commands.{add_module, add_graph, add_job, run, status, values}
+use Rattle.session.specs.Commands.{add_module, add_graph, add_job, run, status, values}
 use Rattle.session.specs.Held.{IsSound}
 use Rattle.session.specs.Maps.{Maps}
 use Rattle.session.specs.Runs.{Runs}
-use Rattle.session_lines.specs.Replies.{graph_line, job_line, memory_line, not_waiting_line, refusal_line, status_line, taken_line, unknown_line, values_text}
+use Rattle.session.specs.Replies.{graph_line, job_line, memory_line, not_waiting_line, refusal_line, status_line, taken_line, unknown_line, values_text}
 use Rattle.session.specs.Transcript.{IsReplyTo}
 use Rattle.session.specs.inside.Answered.{GivesName, IsSet, IsSoundAt, NamesJob, ReportsHeldValues, is_waiting, never}
-use Rattle.session_lines.specs.inside.Seen.{IsModuleLine, IsReplyOf, IsToldOrNoMemory, run_end_line, state_of, reply_text}
+use Rattle.session.specs.inside.SeenLines.{IsModuleLine, IsReplyOf, IsToldOrNoMemory, run_end_line, state_of, reply_text}
 use Rattle.session.specs.inside.Seen.{IsToldOf}
 
 -- ---- what is found

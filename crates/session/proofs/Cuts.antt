@@ -2,8 +2,8 @@
 use Rattle.std.proofs.Common.{inl, inr, ◌≡◌, ℕ, zero, suc, ◌<◌, cond, ltb, List, [], ◌∷◌, ◌++◌, length, map, take, refl, ap, sym, ◌∙◌, arith}
 use Rattle.std.proofs.lemmas.Bool.{cases_Bool, cases_lt, lt-ltb}
 use Rattle.std.proofs.lemmas.List.{length-take, take_all}
-use Rattle.session_lines.specs.Lines.{is_feed, lines_from, rest_from}
-use Rattle.session_lines.specs.Commands.{Asked, asked_by_text, asked_of, unknown}
+use Rattle.session.specs.Lines.{is_feed, lines_from, rest_from}
+use Rattle.session.specs.Commands.{Asked, asked_by_text, asked_of, unknown}
 use Rattle.session.specs.inside.Underway.{asked_from}
 
 -- ---- pieces

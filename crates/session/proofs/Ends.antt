@@ -16,7 +16,7 @@ use Rattle.call_lines.specs.OutputLines.{line}
 use Rattle.sources.specs.Jobs.{IsJobOf}
 use Rattle.session.specs.Maps.{Maps}
 use Rattle.session.specs.declared.held_job.HeldJob.{HeldJob}
-use Rattle.session_lines.specs.Replies.{values_text}
+use Rattle.session.specs.Replies.{values_text}
 use Rattle.session.specs.Transcript.{ReportsValues}
 
 -- no job ends at one superstep and at a later one

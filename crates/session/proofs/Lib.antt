@@ -5,3 +5,8 @@ pub mod Telling
 pub mod Loops
 pub mod Proper
 pub mod Ends
+pub mod Asking
+pub mod Edges
+pub mod Feeds
+pub mod Floats
+pub mod Spaces

@@ -10,13 +10,13 @@ use Rattle.sources.specs.Disk.{Disk, Stays}
 use Rattle.sources.proofs.Disks.{stays_again, stays_same}
 use Rattle.session.specs.declared.serving.ServeFault.{ServeFault}
 use Rattle.session.specs.declared.serving.ServeFault.TheVariants as fault
-use Rattle.session_lines.specs.Lines.{lines_from, rest_from}
-use Rattle.session_lines.specs.Commands.{Asked, asked_in, asked_of, is_quit}
+use Rattle.session.specs.Lines.{lines_from, rest_from}
+use Rattle.session.specs.Commands.{Asked, asked_in, asked_of, is_quit}
 use Rattle.session.specs.Maps.{Maps}
 use Rattle.session.specs.Runs.{Runs}
 use Rattle.session.specs.Serving.{Serves}
 use Rattle.session.specs.Transcript.{IsReplyTo, Tells}
-use Rattle.session_lines.specs.inside.Cutting.{BeginsWithLine, HasNoLine}
+use Rattle.session.specs.inside.Cutting.{BeginsWithLine, HasNoLine}
 use Rattle.session.specs.inside.Underway.{AnswersLine, BreaksAt, GetsSome, GoesOn, HasBroken, HasTold, IsUnderway, Quits, asked_from}
 use Rattle.session.proofs.Cuts.{asked_from-kept, asked_of-kept, lines_from-append, rest_from-append, rest_from-kept}
 use Rattle.session.proofs.Telling.{answers_before, broken_again, broken_next, told_again, told_all, told_quit, underway_again, underway_next, underway_none}

@@ -11,7 +11,7 @@ use Rattle.std.proofs.lemmas.Map.Text.{btree_map_updates_text}
 use Rattle.wasm_ast.specs.declared.module.Module.{Module}
 use Rattle.graph.specs.Entry.{Entry}
 use Rattle.session.specs.declared.held_job.HeldJob.{HeldJob}
-use Rattle.session_lines.specs.declared.run_state.RunState.{RunState}
+use Rattle.session.specs.declared.run_state.RunState.{RunState}
 use Rattle.session.specs.Maps.{Maps, nothing, put}
 use Rattle.session.specs.inside.Answered.{IsSet}
 

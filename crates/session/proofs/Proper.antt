@@ -6,10 +6,10 @@ use Rattle.wasm_ast.specs.declared.module.Module.{Module}
 use Rattle.sources.specs.Disk.{Disk}
 use Rattle.sources.specs.Modules.{IsVerified}
 use Rattle.superstep.specs.Job.{Work}
-use Rattle.session_lines.specs.declared.command.Kind.{Kind}
-use Rattle.session_lines.specs.declared.command.Kind.TheVariants as kind
+use Rattle.session.specs.declared.command.Kind.{Kind}
+use Rattle.session.specs.declared.command.Kind.TheVariants as kind
 use Rattle.session.specs.declared.held_job.HeldJob.{HeldJob}
-use Rattle.session_lines.specs.Commands.{Asked, add_module, add_graph, add_job, run, status, values, drop, quit, unknown}
+use Rattle.session.specs.Commands.{Asked, add_module, add_graph, add_job, run, status, values, drop, quit, unknown}
 use Rattle.session.specs.Maps.{Maps, nothing, put, with_job, with_module}
 use Rattle.session.specs.Runs.{Runs}
 use Rattle.session.specs.Transcript.{IsReplyTo, Reaches, without}

@@ -12,7 +12,7 @@ use Rattle.sources.specs.Modules.{Loads}
 use Rattle.wat_asm.specs.Paths.{is_text_path}
 use Rattle.sources.specs.Reading.{IsRefusedAt}
 use Rattle.sources.proofs.Disks.{holds_before, no_graph_before, unread_before}
-use Rattle.session_lines.specs.Commands.{Asked, add_module, add_graph, add_job, run, status, values, drop, quit, unknown, is_quit}
+use Rattle.session.specs.Commands.{Asked, add_module, add_graph, add_job, run, status, values, drop, quit, unknown, is_quit}
 use Rattle.session.specs.Maps.{Maps}
 use Rattle.session.specs.Runs.{Runs}
 use Rattle.session.specs.Transcript.{IsReplyTo, Begins, Reaches, Tells}

@@ -1,4 +1,10 @@
--- The definitions to read, in this order, behind those of `session_lines`: how runs may end, and what a session holds.
+-- The definitions to read, in this order: the lines of the input, their words, and the command of a line.
+pub mod Lines
+pub mod Words
+pub mod Commands
+-- the texts of replies
+pub mod Replies
+-- how runs may end, and what a session holds
 pub mod Runs
 pub mod Held
 pub mod Maps

@@ -6,7 +6,7 @@ use Rattle.job_state.specs.declared.settings.Settings.{Settings}
 use Rattle.sources.specs.Disk.{Disk}
 use Rattle.sources.specs.Jobs.{IsJobOf}
 use Rattle.session.specs.declared.held_job.HeldJob.{HeldJob}
-use Rattle.session_lines.specs.Commands.{Asked}
+use Rattle.session.specs.Commands.{Asked}
 use Rattle.session.specs.Maps.{Maps, nothing}
 use Rattle.session.specs.Runs.{Runs}
 use Rattle.session.specs.Transcript.{Reaches, ReportsValues}

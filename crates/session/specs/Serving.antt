@@ -6,7 +6,7 @@ use Rattle.line_text.specs.Output.{HasBegun}
 use Rattle.sources.specs.Disk.{Disk}
 use Rattle.session.specs.declared.serving.ServeFault.{ServeFault}
 use Rattle.session.specs.declared.serving.ServeFault.TheVariants as fault
-use Rattle.session_lines.specs.Commands.{Asked, asked_in, is_quit}
+use Rattle.session.specs.Commands.{Asked, asked_in, is_quit}
 use Rattle.session.specs.Maps.{Maps}
 use Rattle.session.specs.Runs.{Runs}
 use Rattle.session.specs.Transcript.{Tells}

@@ -11,15 +11,15 @@ use Rattle.sources.specs.Disk.{Disk}
 use Rattle.sources.specs.Source.{RefusesLoad}
 use Rattle.sources.specs.Jobs.{IsJobOf, RefusesSettings}
 use Rattle.sources.specs.Reading.{IsLoadedAt, IsNoGraphAt, IsReadAt, IsRefusedAt}
-use Rattle.session_lines.specs.declared.command.Kind.{Kind}
-use Rattle.session_lines.specs.declared.command.Kind.TheVariants as kind
+use Rattle.session.specs.declared.command.Kind.{Kind}
+use Rattle.session.specs.declared.command.Kind.TheVariants as kind
 use Rattle.book.specs.declared.report.Report.{Report}
-use Rattle.session_lines.specs.declared.run_state.RunState.TheVariants as state
+use Rattle.session.specs.declared.run_state.RunState.TheVariants as state
 use Rattle.session.specs.declared.held_job.HeldJob.{HeldJob}
-use Rattle.session_lines.specs.Commands.{Asked, add_module, add_graph, add_job, run, status, values, drop, quit, unknown, is_quit}
+use Rattle.session.specs.Commands.{Asked, add_module, add_graph, add_job, run, status, values, drop, quit, unknown, is_quit}
 use Rattle.session.specs.Runs.{Runs}
 use Rattle.session.specs.Maps.{Maps, with_graph, with_job, with_module}
-use Rattle.session_lines.specs.Replies.{bye_line, drop_line, failed_line, graph_line, job_line, memory_line, module_line, not_ended_line, not_waiting_line, refusal_line, run_line, status_line, taken_line, unknown_line, usage_line, values_text}
+use Rattle.session.specs.Replies.{bye_line, drop_line, failed_line, graph_line, job_line, memory_line, module_line, not_ended_line, not_waiting_line, refusal_line, run_line, status_line, taken_line, unknown_line, usage_line, values_text}
 
 -- ---- commands that are executed: the reply, and what is held afterwards
 

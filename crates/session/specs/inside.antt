@@ -2,3 +2,5 @@
 pub mod Seen
 pub mod Answered
 pub mod Underway
+pub mod Cutting
+pub mod SeenLines

@@ -2,7 +2,7 @@
 
 ghost use Rattle.session.specs.Held.{IsSound};
 
-use session_lines::RunState;
+use crate::run_state::RunState;
 use superstep::Job;
 
 /// A job and its state.

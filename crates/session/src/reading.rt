@@ -4,11 +4,12 @@ ghost use Rattle.std.specs.Prelude.{MatchResult};
 ghost use Rattle.sources.specs.Disk.{Stays};
 ghost use Rattle.sources.specs.Source.{RefusesLoad};
 ghost use Rattle.sources.specs.Reading.{IsLoadedAt, IsNoGraphAt, IsReadAt, IsRefusedAt};
-ghost use Rattle.session_lines.specs.inside.Seen.{reply_text};
+ghost use Rattle.session.specs.inside.SeenLines.{reply_text};
 ghost use Rattle.session.specs.inside.Seen.{IsToldOf};
 
+use crate::refusals::refusal;
+use crate::reply::Reply;
 use graph::Graph;
-use session_lines::{Reply, refusal};
 use sources::{Files, load_file, read_graph};
 use std::alloc::Global;
 use std::thread::Threads;

@@ -5,24 +5,26 @@ ghost use Rattle.std.specs.BTreeMap.{get_by_text};
 ghost use Rattle.graph.specs.Entry.{edge_count};
 ghost use Rattle.sources.specs.Disk.{Stays, unknown};
 ghost use Rattle.sources.specs.Jobs.{IsJobOf, RefusesSettings};
-ghost use Rattle.session_lines.specs.Commands.{add_graph, add_job, add_module, drop, run, status, values};
+ghost use Rattle.session.specs.Commands.{add_graph, add_job, add_module, drop, run, status, values};
 ghost use Rattle.session.specs.Maps.{nothing};
-ghost use Rattle.session_lines.specs.Replies.{graph_line};
+ghost use Rattle.session.specs.Replies.{graph_line};
 ghost use Rattle.session.specs.Transcript.{IsReplyTo, holds, without};
 ghost use Rattle.session.specs.inside.Answered.{GivesName, IsSet, IsSoundAt, NamesJob, ReportsHeldValues, is_waiting, never};
-ghost use Rattle.session_lines.specs.inside.Seen.{IsModuleLine, asked, state_of, reply_text};
+ghost use Rattle.session.specs.inside.SeenLines.{IsModuleLine, asked, state_of, reply_text};
 ghost use Rattle.session.specs.inside.Seen.{IsToldOf, maps_of};
 
+use crate::command::{Command, Kind};
 use crate::held_job::HeldJob;
 use crate::maps::{hold, is_held, let_go};
 use crate::reading::{graph_at, module_at};
+use crate::refusals::refusal;
+use crate::reply::Reply;
+use crate::run_state::RunState;
 use crate::runner::Runner;
+use crate::status::status_text;
+use crate::texts::{end_text, graph_text, job_text, module_text, values_text};
 use book::Report;
 use graph::Graph;
-use session_lines::{
-    Command, Kind, Reply, RunState, end_text, graph_text, job_text, module_text, refusal,
-    status_text, values_text,
-};
 use sources::{CommandFault, Files};
 use std::alloc::{AllocError, Global};
 use std::collections::BTreeMap;

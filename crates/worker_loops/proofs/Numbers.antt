@@ -4,15 +4,15 @@ use mathlib.Core.List.{append-nil, map-append}
 use Rattle.superstep.specs.declared.task.Task.{Task}
 use Rattle.control.specs.declared.event.Event.{Event}
 use Rattle.control.specs.Stamps.{stamp_of, task_out}
-use Rattle.channels.specs.Orders.{tasks_in}
+use Rattle.hub_ends.specs.Orders.{tasks_in}
 use Rattle.hub_ends.specs.Hub.{events_in}
 use Rattle.worker_loops.specs.Numbers.{outs_in, stamps_in}
 use Rattle.hub_ends.specs.declared.message.Message.{Message}
 use Rattle.hub_ends.specs.declared.message.Message.TheVariants as message
-use Rattle.channels.specs.declared.order.Order.{Order}
-use Rattle.channels.specs.declared.order.Order.TheVariants.{Do}
+use Rattle.hub_ends.specs.declared.order.Order.{Order}
+use Rattle.hub_ends.specs.declared.order.Order.TheVariants.{Do}
 use Rattle.hub_ends.specs.declared.message.Sender.{Sender}
-use Rattle.channels.proofs.Handing.{tasks-append}
+use Rattle.hub_ends.proofs.Handed.{tasks-append}
 
 module _ {J : Type 0} where
   events_in-append : (a b : List (Message J)) → events_in (a ++ b) ≡ events_in a ++ events_in b

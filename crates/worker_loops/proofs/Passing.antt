@@ -8,11 +8,11 @@ use Rattle.control.specs.declared.event.Event.{Event}
 use Rattle.hub_ends.specs.Messages.{AddsJoins, is_joined, is_lost, joins_follow}
 use Rattle.hub_ends.specs.declared.message.Message.{Message}
 use Rattle.hub_ends.specs.declared.message.Message.TheVariants as message
-use Rattle.channels.specs.ChannelEnds.{IsSameReader, IsSameSender}
+use Rattle.hub_ends.specs.ChannelEnds.{IsSameReader, IsSameSender}
 use Rattle.hub_ends.specs.Passes.{IsReceipt, IsSamePass, handed_in_by}
 use Rattle.worker_loops.specs.Counted.{JoinsAfterLoss}
-use Rattle.channels.specs.declared.channel_ends.ReceivingEnd.{ReceivingEnd}
-use Rattle.channels.specs.declared.channel_ends.SendingEnd.{SendingEnd}
+use Rattle.hub_ends.specs.declared.channel_ends.ReceivingEnd.{ReceivingEnd}
+use Rattle.hub_ends.specs.declared.channel_ends.SendingEnd.{SendingEnd}
 use Rattle.hub_ends.specs.declared.pass.WorkerPass.{WorkerPass}
 use Rattle.hub_ends.specs.declared.pass.WorkerReceipt.{WorkerReceipt}
 

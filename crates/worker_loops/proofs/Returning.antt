@@ -11,11 +11,11 @@ use Rattle.control.specs.declared.event.Event.TheVariants as happened
 use Rattle.control.specs.Stamps.{done_out, stamp_of, task_out}
 use Rattle.control.specs.Events.{Stamp}
 use Rattle.control.specs.Events.Stamp.{DoneBy, JoinedBy, LostBy}
-use Rattle.channels.specs.Orders.{coordinator, order_of, tasks_in}
-use Rattle.channels.specs.Protocol.{of}
-use Rattle.channels.specs.declared.order.Order.{Order}
-use Rattle.channels.specs.declared.order.Order.TheVariants.{Do, Stop}
-use Rattle.channels.proofs.Handing.{tasks-append}
+use Rattle.hub_ends.specs.Orders.{coordinator, order_of, tasks_in}
+use Rattle.hub_ends.specs.Protocol.{of}
+use Rattle.hub_ends.specs.declared.order.Order.{Order}
+use Rattle.hub_ends.specs.declared.order.Order.TheVariants.{Do, Stop}
+use Rattle.hub_ends.proofs.Handed.{tasks-append}
 use Rattle.hub_ends.specs.Passes.{handed_in_by, taken_by}
 use Rattle.worker_loops.specs.Returns.{AreReturnsOf, IsReturnOf, IsWorkOn}
 use Rattle.worker_loops.specs.Numbers.{outs_in, stamps_in}

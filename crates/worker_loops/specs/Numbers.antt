@@ -3,10 +3,10 @@ use Rattle.std.specs.Prelude.{List, map}
 use Rattle.control.specs.declared.control.Out.{Out}
 use Rattle.control.specs.Events.{Stamp}
 use Rattle.control.specs.Stamps.{stamp_of, task_out}
-use Rattle.channels.specs.Orders.{tasks_in}
+use Rattle.hub_ends.specs.Orders.{tasks_in}
 use Rattle.hub_ends.specs.Hub.{events_in}
 use Rattle.hub_ends.specs.declared.message.Message.{Message}
-use Rattle.channels.specs.declared.order.Order.{Order}
+use Rattle.hub_ends.specs.declared.order.Order.{Order}
 
 -- what it received, without byes and in numbers
 abbrev pub stamps_in : {J : Type 0} → List (Message J) → List Stamp

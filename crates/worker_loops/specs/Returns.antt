@@ -4,7 +4,7 @@ use mathlib.Core.List.{IsPrefix}
 use Rattle.superstep.specs.Job.{Work}
 use Rattle.superstep.specs.Tasks.{AreUnitsAt}
 use Rattle.job_state.specs.declared.fault.Place.TheVariants.{Call}
-use Rattle.channels.specs.Protocol.{of}
+use Rattle.hub_ends.specs.Protocol.{of}
 use Rattle.control.specs.declared.control.Out.{Out}
 use Rattle.control.specs.Events.{Stamp}
 use Rattle.control.specs.Events.Stamp.{DoneBy, FailedBy, JoinedBy, LostBy, Ticked}

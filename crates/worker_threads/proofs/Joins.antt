@@ -2,8 +2,8 @@
 use Rattle.std.proofs.Common.{◌≡◌, ◌∙◌, ℕ, ◌+◌, Bool, true, false, List, [], ◌∷◌, ◌++◌, length, slice_get, Some, ap, sym, subst, arith}
 use Rattle.std.specs.declared.thread.PromisedHandle.{PromisedHandle}
 use Rattle.superstep.specs.Job.{Work}
-use Rattle.channels.specs.Channel.{Channel}
-use Rattle.channels.proofs.Handing.{get_end, get_more}
+use Rattle.hub_ends.specs.Channel.{Channel}
+use Rattle.hub_ends.proofs.Handed.{get_end, get_more}
 use Rattle.worker_loops.specs.Counted.{joins_counted}
 use Rattle.hub_ends.specs.Passes.{handed_in_by}
 use Rattle.worker_loops.specs.Numbers.{stamps_in}

@@ -2,17 +2,17 @@
 use Rattle.std.proofs.Common.{◌≡◌, ℕ, ◌≤◌, ◌+◌, vec_capacity, List, [], ◌∷◌, ◌++◌, length, sym, ◌∙◌, subst, arith}
 use Rattle.std.specs.declared.thread.PromisedHandle.{PromisedHandle}
 use Rattle.hub_ends.specs.Hub.{AreNewPasses, Channels, IsNewPass, IsReceiptOn, IsSameHub, IsSettled, IsTickReceiptOn, IsTickerSettled, channels_of, handed, received}
-use Rattle.channels.specs.Orders.{at, coordinator, stops}
+use Rattle.hub_ends.specs.Orders.{at, coordinator, stops}
 use Rattle.hub_ends.specs.Messages.{closes, sender_of}
 use Rattle.hub_ends.specs.Passes as pass
-use Rattle.channels.specs.Protocol.{IsOnceInOrder}
+use Rattle.hub_ends.specs.Protocol.{IsOnceInOrder}
 use Rattle.worker_loops.specs.Counted.{JoinsAfterLoss}
 use Rattle.worker_threads.specs.Threads.{AreSpawned, AreSettled, AreThreadsOf, IsSpawned}
 use Rattle.hub_ends.specs.declared.coordinator_ends.CoordinatorEnds.{CoordinatorEnds}
 use Rattle.worker_threads.specs.declared.thread_promises.HubThreads.{HubThreads}
 use Rattle.worker_threads.specs.declared.thread_promises.WorkerPromise.{WorkerPromise}
 use Rattle.hub_ends.specs.declared.message.Message.{Message}
-use Rattle.channels.specs.declared.order.Order.{Order}
+use Rattle.hub_ends.specs.declared.order.Order.{Order}
 use Rattle.hub_ends.specs.declared.pass.TickReceipt.{TickReceipt}
 use Rattle.hub_ends.specs.declared.pass.WorkerPass.{WorkerPass}
 use Rattle.hub_ends.specs.declared.pass.WorkerReceipt.{WorkerReceipt}

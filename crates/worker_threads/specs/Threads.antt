@@ -2,7 +2,7 @@
 use Rattle.std.specs.Prelude.{◌≡◌, ◌≤◌, ◌+◌, ℕ, Bool, Option, Some, None, List, [], ◌∷◌, vec_len, vec_capacity, false, true}
 use Rattle.std.specs.declared.thread.PromisedHandle.{PromisedHandle}
 use Rattle.hub_ends.specs.Hub.{IsSettled, IsTickerSettled, channels_of, handed, received, staff}
-use Rattle.channels.specs.Orders.{at, tasks_in}
+use Rattle.hub_ends.specs.Orders.{at, tasks_in}
 use Rattle.worker_loops.specs.Counted.{JoinsAfterLoss}
 use Rattle.hub_ends.specs.declared.receipts.Receipts.{Receipts}
 use Rattle.hub_ends.specs.declared.coordinator_ends.CoordinatorEnds.{CoordinatorEnds}

@@ -4,8 +4,8 @@ use Rattle.std.specs.Prelude.{nat_lt, ◌==◌}
 use Rattle.std.proofs.Common.{◌≡◌, ◌≢◌, ◌∙◌, ℕ, zero, suc, ◌+◌, ◌<◌, ◌≤◌, Bool, true, false, ◌&&◌, ◌||◌, cond, List, [], ◌∷◌, length, Result, Ok, Err, IfOk, eq-eqb, true≢false, ap, refl, sym, subst, arith, ◌⊎◌, ⊎_elim, inl, inr}
 use Rattle.superstep.specs.Job.{Work}
 use Rattle.job_state.specs.declared.fault.JobFault.{JobFault}
-use Rattle.channels.specs.Protocol.{of}
-use Rattle.channels.specs.declared.order.Order.{Order}
+use Rattle.hub_ends.specs.Protocol.{of}
+use Rattle.hub_ends.specs.declared.order.Order.{Order}
 use Rattle.control.specs.declared.control.Out.{Out}
 use Rattle.control.specs.declared.answer.Answer.{Answer}
 use Rattle.control.specs.declared.answer.Answer.TheVariants.{Ended, Stale}

@@ -10,7 +10,7 @@ use Rattle.coordinator.specs.JobAnswers.{HasSpent, WhereEnded}
 use Rattle.hub_ends.specs.Hub.{HasByes, received, staff}
 use Rattle.hub_ends.specs.Messages.{event_sender, sender_of}
 use Rattle.hub_ends.specs.Passes.{handed_in_by}
-use Rattle.channels.specs.Protocol.{of}
+use Rattle.hub_ends.specs.Protocol.{of}
 use Rattle.worker_loops.specs.Numbers.{stamps_in}
 use Rattle.workers.specs.Charges.{AreCharged, HasHandedIn}
 use Rattle.worker_threads.specs.Threads.{AreSettled, HasSettled, IsSettledHub}

@@ -8,8 +8,8 @@ use Rattle.control.specs.declared.event.Event.TheVariants as happened
 use Rattle.book.specs.declared.report.Report.{Report}
 use Rattle.control.specs.Stamps.{stamp_of}
 use Rattle.control.specs.Machine.{Machine}
-use Rattle.channels.specs.Orders.{at}
-use Rattle.channels.specs.Protocol.{of}
+use Rattle.hub_ends.specs.Orders.{at}
+use Rattle.hub_ends.specs.Protocol.{of}
 use Rattle.hub_ends.specs.Hub.{HasByes, handed, received, staff}
 use Rattle.coordinator.specs.Joining.{JoinedFrom}
 use Rattle.worker_loops.specs.Counted.{joins_counted}

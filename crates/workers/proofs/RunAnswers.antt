@@ -14,8 +14,8 @@ use Rattle.worker_loops.specs.Returns.{IsWorkOn, events_by}
 use Rattle.coordinator.specs.Steps.{Move, events, hands}
 use Rattle.worker_loops.specs.Numbers.{outs_in, stamps_in}
 use Rattle.hub_ends.specs.declared.message.Message.{Message}
-use Rattle.channels.specs.Orders.{at}
-use Rattle.channels.specs.declared.order.Order.{Order}
+use Rattle.hub_ends.specs.Orders.{at}
+use Rattle.hub_ends.specs.declared.order.Order.{Order}
 use Rattle.coordinator.proofs.Ending.{answers_report}
 
 module _ {J : Type 0} (work : Work) (honest : ℕ → Bool) (received : List (Message J)) (handed : List (List (Order J))) where

@@ -6,7 +6,7 @@ use Rattle.superstep.specs.Job.{Work}
 use Rattle.control.specs.declared.job_status.JobStatus.{JobStatus}
 use Rattle.control.specs.declared.job_status.JobStatus.TheVariants.{Fault, Finished, Limit, Running}
 use Rattle.control.specs.Machine.{Machine, is_running}
-use Rattle.channels.specs.declared.order.Order.{Order}
+use Rattle.hub_ends.specs.declared.order.Order.{Order}
 use Rattle.hub_ends.specs.Hub.{IsStopped, staff}
 use Rattle.coordinator.specs.Steps.{KeptAlong, Steps}
 use Rattle.hub_ends.specs.declared.coordinator_ends.CoordinatorEnds.{CoordinatorEnds}

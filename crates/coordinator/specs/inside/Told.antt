@@ -2,7 +2,7 @@
 use Rattle.std.specs.Prelude.{◌≡◌, ◌<◌, ◌==◌, ℕ, Bool, List, [], ◌∷◌, ◌++◌, length, Option, Some, None, Result, if◌then◌else◌}
 use Rattle.superstep.specs.Job.{Work}
 use Rattle.job_state.specs.declared.fault.JobFault.{JobFault}
-use Rattle.channels.specs.declared.order.Order.{Order}
+use Rattle.hub_ends.specs.declared.order.Order.{Order}
 use Rattle.control.specs.declared.answer.Answer.{Answer}
 use Rattle.control.specs.declared.event.Event.{Event}
 use Rattle.control.specs.declared.event.Event.TheVariants.{Done, Failed, Joined, Lost, Tick}

@@ -1,15 +1,15 @@
 -- How a hub is opened.
 use Rattle.std.specs.Prelude.{◌≡◌, ◌≤◌, ◌+◌, ℕ, false, [], map, replicate, vec_len, vec_capacity}
 use Rattle.hub_ends.specs.Hub.{AreNewPasses, HaveRoomFor}
-use Rattle.channels.specs.Orders.{at}
-use Rattle.channels.specs.TaskChannels.{channel_on, sent_on}
-use Rattle.channels.specs.ChannelEnds.{channel_of, source_of}
+use Rattle.hub_ends.specs.Orders.{at}
+use Rattle.hub_ends.specs.TaskChannels.{channel_on, sent_on}
+use Rattle.hub_ends.specs.ChannelEnds.{channel_of, source_of}
 use Rattle.hub_ends.specs.Passes as pass
 use Rattle.hub_ends.specs.declared.hub.Rows.{Rows}
 use Rattle.hub_ends.specs.declared.message.Message.{Message}
-use Rattle.channels.specs.declared.order.Order.{Order}
+use Rattle.hub_ends.specs.declared.order.Order.{Order}
 use Rattle.hub_ends.specs.declared.pass.WorkerPass.{WorkerPass}
-use Rattle.channels.specs.Channel.{Channel}
+use Rattle.hub_ends.specs.Channel.{Channel}
 
 module _ {J : Type 0} where
   -- there is room for this many workers

@@ -2,13 +2,13 @@
 use Rattle.std.specs.Prelude.{◌≡◌, ◌≢◌, ◌⊎◌, ℕ, Bool, true, false, List, Option, Some}
 use Rattle.superstep.specs.Job.{Work}
 use Rattle.superstep.specs.Ending.{IsEndOf}
-use Rattle.session_lines.specs.declared.run_state.RunState.{RunState}
-use Rattle.session_lines.specs.declared.run_state.RunState.TheVariants as state
+use Rattle.session.specs.declared.run_state.RunState.{RunState}
+use Rattle.session.specs.declared.run_state.RunState.TheVariants as state
 use Rattle.session.specs.declared.held_job.HeldJob.{HeldJob}
 use Rattle.book.specs.declared.report.Report.{Report}
 use Rattle.session.specs.Held.{IsSound}
 use Rattle.session.specs.Maps.{put}
-use Rattle.session_lines.specs.Replies.{job_line, memory_line, not_ended_line, values_text}
+use Rattle.session.specs.Replies.{job_line, memory_line, not_ended_line, values_text}
 use Rattle.session.specs.Runs.{Runs}
 
 -- runs of which none ends; a command that runs nothing is answered in the same way over all runs

@@ -5,7 +5,7 @@ use Rattle.sources.specs.declared.fault.CommandFault.{CommandFault}
 use Rattle.session.specs.declared.sessions.Session.{Session}
 use Rattle.session.specs.Maps.{Maps}
 use Rattle.session.specs.Transcript.{ReportsFault}
-use Rattle.session_lines.specs.Replies.{memory_line}
+use Rattle.session.specs.Replies.{memory_line}
 
 -- the reply reports a fault for which there is this cause, or that memory ran out
 abbrev pub IsToldOf : (Cause : CommandFault → Type 0) → (told : List ℕ) → Type 0

@@ -6,9 +6,9 @@ use Rattle.line_text.specs.Output.{HasBegun}
 use Rattle.sources.specs.Disk.{Disk}
 use Rattle.session.specs.declared.serving.ServeFault.{ServeFault}
 use Rattle.session.specs.declared.serving.ServeFault.TheVariants as fault
-use Rattle.session_lines.specs.declared.lines.TheConstants.{KEPT}
-use Rattle.session_lines.specs.Lines.{lines_from, rest_from}
-use Rattle.session_lines.specs.Commands.{Asked, asked_of, is_quit}
+use Rattle.session.specs.declared.lines.TheConstants.{KEPT}
+use Rattle.session.specs.Lines.{lines_from, rest_from}
+use Rattle.session.specs.Commands.{Asked, asked_of, is_quit}
 use Rattle.session.specs.Maps.{Maps}
 use Rattle.session.specs.Runs.{Runs}
 use Rattle.session.specs.Transcript.{IsReplyTo, Reaches, Tells}

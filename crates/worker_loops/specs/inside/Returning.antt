@@ -3,7 +3,7 @@ use Rattle.std.specs.Prelude.{◌≡◌, ℕ, Bool, List, ◌++◌}
 use Rattle.superstep.specs.Job.{Work}
 use Rattle.control.specs.declared.control.Out.{Out}
 use Rattle.control.specs.Events.{Stamp}
-use Rattle.channels.specs.declared.order.Order.{Order}
+use Rattle.hub_ends.specs.declared.order.Order.{Order}
 use Rattle.hub_ends.specs.Passes.{handed_in_by, taken_by}
 use Rattle.worker_loops.specs.Returns.{AreReturnsOf, IsReturnOf}
 use Rattle.worker_loops.specs.Numbers.{outs_in, stamps_in}

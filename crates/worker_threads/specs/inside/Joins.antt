@@ -1,7 +1,7 @@
 -- How the coordinator and its threads follow what became of losses.
 use Rattle.std.specs.Prelude.{◌≡◌, ◌+◌, ℕ, Bool, true, false, List, [], ◌∷◌, Some, slice_get}
 use Rattle.superstep.specs.Job.{Work}
-use Rattle.channels.specs.Channel.{Channel}
+use Rattle.hub_ends.specs.Channel.{Channel}
 use Rattle.std.specs.declared.thread.PromisedHandle.{PromisedHandle}
 use Rattle.worker_loops.specs.Counted.{joins_counted}
 use Rattle.hub_ends.specs.Passes.{handed_in_by}

@@ -1,6 +1,6 @@
 use Rattle.std.proofs.Common.{arith, refl}
 use Rattle.hub_ends.specs.Hub.{handed, received}
-use Rattle.channels.proofs.Handing.{on_ok}
+use Rattle.hub_ends.proofs.Handed.{on_ok}
 use Rattle.hub_ends.proofs.Handing.{handed_len}
 use Rattle.coordinator.proofs.Moving.{steps_hand, steps_same}
 use Rattle.coordinator.proofs.event_loop.offer_next.Goals as goal

@@ -1,5 +1,5 @@
 use Rattle.std.proofs.Common.{◌<◌, OnOk, arith, length, map, set, subst, sym}
-use Rattle.channels.proofs.Handing.{length_map, map_one, map_same, on_ok}
+use Rattle.hub_ends.proofs.Handed.{length_map, map_one, map_same, on_ok}
 use Rattle.hub_ends.specs.Verdicts.{sends_on, told_on}
 use Rattle.coordinator.specs.inside.Told.{IsToldNext}
 use Rattle.coordinator.proofs.Telling.{told_nobody, told_one, told_past}

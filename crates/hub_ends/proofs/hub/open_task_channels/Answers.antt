@@ -1,10 +1,10 @@
 use Rattle.std.proofs.Common.{◌∷◌, [], ap, arith, map, rules, subst, sym, ◌∙◌}
 use mathlib.Core.List.{map-append}
-use Rattle.channels.specs.Orders.{at}
-use Rattle.channels.specs.TaskChannels.{channel_on, sent_on}
-use Rattle.channels.specs.ChannelEnds.{source_of}
+use Rattle.hub_ends.specs.Orders.{at}
+use Rattle.hub_ends.specs.TaskChannels.{channel_on, sent_on}
+use Rattle.hub_ends.specs.ChannelEnds.{source_of}
 use Rattle.hub_ends.specs.inside.Opening.{IsNewPassOf}
-use Rattle.channels.proofs.Handing.{length_map}
+use Rattle.hub_ends.proofs.Handed.{length_map}
 use Rattle.hub_ends.proofs.Opening.{at_more, passes_more, rooms_more}
 use Rattle.hub_ends.proofs.hub.open_task_channels.Goals as goal
 

@@ -1,8 +1,8 @@
 use Rattle.std.proofs.Common.{◌≡◌, ◌≤◌, ◌+◌, [], map, ℕ, vec_len, vec_capacity}
 use Rattle.hub_ends.specs.Hub.{AreNewPasses, HaveRoomFor}
-use Rattle.channels.specs.Orders.{at}
-use Rattle.channels.specs.TaskChannels.{channel_on, sent_on}
-use Rattle.channels.specs.ChannelEnds.{channel_of, received_by, senders_of, source_of}
+use Rattle.hub_ends.specs.Orders.{at}
+use Rattle.hub_ends.specs.TaskChannels.{channel_on, sent_on}
+use Rattle.hub_ends.specs.ChannelEnds.{channel_of, received_by, senders_of, source_of}
 use Rattle.hub_ends.proofs.hub.open_task_channels.Given as goal
 
 abbrev pub invariant-loop-worker : goal.invariant-loop-worker

@@ -1,7 +1,7 @@
 use Rattle.std.proofs.Common.{◌≡◌, false, None, subst, sym}
 use Rattle.sources.proofs.Disks.{stays_same}
 use Rattle.sources.proofs.Faults.{is_fault}
-use Rattle.console.specs.FileCommands.{MayPrint}
+use Rattle.pregel.specs.FileCommands.{MayPrint}
 use Rattle.plain_commands.specs.Sheets.{IsStatusOf, asks_sheets}
 use Rattle.plain_commands.specs.declared.noting.RunNotes.{RunNotes}
 use Rattle.plain_commands.proofs.SheetFiles.{may_stay}

@@ -1,5 +1,5 @@
 use Rattle.sources.specs.Reading.{IsNoGraphAt}
-use Rattle.session_lines.specs.inside.Seen.{reply_text}
+use Rattle.session.specs.inside.SeenLines.{reply_text}
 use Rattle.session.proofs.Answering.{told_of}
 use Rattle.session.proofs.reading.graph_at.Goals as goal
 

@@ -1,6 +1,6 @@
 use Rattle.sources.specs.Reading.{IsRefusedAt}
 use Rattle.sources.specs.Source.{RefusesLoad}
-use Rattle.session_lines.specs.inside.Seen.{reply_text}
+use Rattle.session.specs.inside.SeenLines.{reply_text}
 use Rattle.session.proofs.Answering.{told_of}
 use Rattle.session.proofs.reading.module_at.Goals as goal
 

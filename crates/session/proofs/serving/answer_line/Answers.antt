@@ -1,5 +1,5 @@
 use Rattle.std.proofs.Common.{rules}
-use Rattle.session_lines.specs.inside.Seen.{reply_text}
+use Rattle.session.specs.inside.SeenLines.{reply_text}
 use Rattle.session.proofs.serving.answer_line.Goals as goal
 
 pub returns-in_err-tell-clause-answered : goal.returns-in_err-tell-clause-answered

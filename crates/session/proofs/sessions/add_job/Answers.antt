@@ -1,6 +1,6 @@
 use Rattle.std.proofs.Common.{◌∙◌, sym}
 use Rattle.std.specs.BTreeMap.{get_by_text}
-use Rattle.session_lines.specs.inside.Seen.{reply_text}
+use Rattle.session.specs.inside.SeenLines.{reply_text}
 use Rattle.session.specs.inside.Seen.{maps_of}
 use Rattle.session.proofs.Answering.{copied_some, job_named}
 use Rattle.session.proofs.sessions.add_job.Goals as goal

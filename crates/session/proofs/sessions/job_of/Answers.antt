@@ -2,7 +2,7 @@ use Rattle.std.proofs.Common.{◌≡◌, Some}
 use Rattle.job_state.specs.Settings.{first_bad}
 use Rattle.sources.specs.declared.fault.CommandFault.TheVariants as command
 use Rattle.sources.specs.Jobs.{RefusesSettings}
-use Rattle.session_lines.specs.inside.Seen.{reply_text}
+use Rattle.session.specs.inside.SeenLines.{reply_text}
 use Rattle.session.proofs.Answering.{told_of}
 use Rattle.session.proofs.sessions.job_of.Goals as goal
 

@@ -1,7 +1,7 @@
 use Rattle.std.proofs.Common.{refl}
 use Rattle.std.specs.Prelude.{string_bytes}
 use Rattle.std.specs.BTreeMap.{get_by_text}
-use Rattle.session_lines.specs.inside.Seen.{reply_text}
+use Rattle.session.specs.inside.SeenLines.{reply_text}
 use Rattle.session.proofs.Answering.{names_job, names_no_job}
 use Rattle.session.proofs.sessions.name_job.Goals as goal
 

@@ -1,6 +1,6 @@
-use Rattle.session_lines.specs.inside.Seen.{reply_text}
+use Rattle.session.specs.inside.SeenLines.{reply_text}
 use Rattle.session.specs.inside.Seen.{maps_of}
-use Rattle.session_lines.specs.Replies.{status_line}
+use Rattle.session.specs.Replies.{status_line}
 use Rattle.session.proofs.Answering.{copied_some, reply_of, status_told}
 use Rattle.session.proofs.sessions.report_status.Goals as goal
 

@@ -1,4 +1,4 @@
-use Rattle.session_lines.specs.inside.Seen.{reply_text}
+use Rattle.session.specs.inside.SeenLines.{reply_text}
 use Rattle.session.specs.inside.Seen.{maps_of}
 use Rattle.session.proofs.Answering.{copied_some, values_told}
 use Rattle.session.proofs.sessions.report_values.Goals as goal

@@ -3,7 +3,7 @@ use Rattle.std.specs.Prelude.{string_bytes}
 use Rattle.std.specs.BTreeMap.{get_by_text}
 use Rattle.session.specs.inside.Answered.{IsSet, is_waiting}
 use Rattle.session.specs.inside.Seen.{maps_of}
-use Rattle.session_lines.specs.Replies.{not_waiting_line}
+use Rattle.session.specs.Replies.{not_waiting_line}
 use Rattle.session.proofs.Answering.{copied_some, job_ran, run_again, sound_of}
 use Rattle.session.proofs.sessions.run_job.Goals as goal
 

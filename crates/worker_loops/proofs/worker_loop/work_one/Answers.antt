@@ -1,5 +1,5 @@
 use Rattle.control.specs.Stamps.{task_out}
-use Rattle.channels.proofs.Handing.{on_ok}
+use Rattle.hub_ends.proofs.Handed.{on_ok}
 use Rattle.hub_ends.specs.Passes.{handed_in}
 use Rattle.hub_ends.specs.Verdicts.{heard_on}
 use Rattle.worker_loops.proofs.Epochs.{steady_event}

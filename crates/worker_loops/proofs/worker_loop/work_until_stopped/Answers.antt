@@ -1,5 +1,5 @@
 use Rattle.std.proofs.Common.{[], ◌∷◌, ◌++◌, ap, refl, subst, sym, ◌∙◌}
-use Rattle.channels.specs.Orders.{order_of}
+use Rattle.hub_ends.specs.Orders.{order_of}
 use Rattle.hub_ends.specs.Messages.{AddsJoins}
 use Rattle.hub_ends.specs.Passes.{handed_in, taken}
 use Rattle.worker_loops.specs.Numbers.{stamps_in}

@@ -1,5 +1,5 @@
 use Rattle.std.proofs.Common.{◌≡◌, ◌+◌, ◌∙◌, ◌<◌, ℕ, ap, false, length, map, slice_get, Some, sym, subst, vec_len, arith}
-use Rattle.channels.proofs.Handing.{at_map, get_map, map_same}
+use Rattle.hub_ends.proofs.Handed.{at_map, get_map, map_same}
 use Rattle.hub_ends.specs.Hub.{IsSettled}
 use Rattle.worker_loops.specs.Counted.{joins_counted}
 use Rattle.hub_ends.specs.Messages.{joins_follow}

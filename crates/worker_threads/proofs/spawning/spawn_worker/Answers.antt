@@ -1,6 +1,6 @@
 use denote.Param.Send.{sendable}
 use Rattle.std.proofs.Crossing.{crosses}
-use Rattle.channels.proofs.Crossing.{job_sync}
+use Rattle.hub_ends.proofs.Crossing.{job_sync}
 use Rattle.hub_ends.proofs.pass.WorkerPass.TheSendSync as pass
 use Rattle.hub_ends.proofs.verdict.VerdictReader.TheSendSync as reader
 use Rattle.worker_threads.proofs.spawning.spawn_worker.Goals as goal

@@ -1,6 +1,6 @@
 use Rattle.std.proofs.Common.{◌∷◌, [], ◌∙◌, ap, map, rules, arith}
 use mathlib.Core.List.{map-append}
-use Rattle.channels.proofs.Handing.{length_map}
+use Rattle.hub_ends.proofs.Handed.{length_map}
 use Rattle.hub_ends.specs.Verdicts.{sends_on, told_on, told_to}
 use Rattle.worker_threads.proofs.Epochs.{gate_more}
 use Rattle.worker_threads.proofs.Joins.{linked_next}

@@ -4,7 +4,7 @@ use Rattle.hub_ends.specs.Hub.{HasByes, handed, received, staff}
 use Rattle.hub_ends.specs.Verdicts.{told_on}
 use Rattle.worker_threads.specs.inside.Joins.{AreJoined, AreLinked}
 use Rattle.coordinator.specs.inside.Told.{ToldFrom}
-use Rattle.channels.proofs.Handing.{length_map}
+use Rattle.hub_ends.proofs.Handed.{length_map}
 use Rattle.coordinator.proofs.Ending.{not_ended, where_ended, where_mapped, where_two, with_last}
 use Rattle.workers.proofs.Epochs.{epoch_told}
 use Rattle.hub_ends.proofs.Handing.{hub_then}

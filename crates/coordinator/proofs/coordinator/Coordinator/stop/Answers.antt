@@ -1,5 +1,5 @@
 use Rattle.std.proofs.Common.{ap, sym, ◌∙◌}
-use Rattle.channels.specs.Orders.{at, tasks_in}
+use Rattle.hub_ends.specs.Orders.{at, tasks_in}
 use Rattle.coordinator.specs.Coordinator.{handed_on}
 use Rattle.coordinator.proofs.coordinator.Coordinator.stop.Goals as goal
 

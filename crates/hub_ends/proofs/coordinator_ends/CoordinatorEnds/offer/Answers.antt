@@ -1,8 +1,8 @@
 use Rattle.std.proofs.Common.{arith, refl}
-use Rattle.channels.specs.TaskChannels.{channel_on, sent_on}
-use Rattle.channels.specs.declared.order.Order.TheVariants.{Do}
+use Rattle.hub_ends.specs.TaskChannels.{channel_on, sent_on}
+use Rattle.hub_ends.specs.declared.order.Order.TheVariants.{Do}
 use Rattle.hub_ends.proofs.Handing.{channels_as}
-use Rattle.channels.proofs.Handing.{map_one, map_same, on_err, on_ok}
+use Rattle.hub_ends.proofs.Handed.{map_one, map_same, on_err, on_ok}
 use Rattle.hub_ends.proofs.coordinator_ends.CoordinatorEnds.offer.Goals as goal
 
 pub returns-clause-handed : goal.returns-clause-handed

@@ -1,10 +1,10 @@
 use Rattle.std.proofs.Common.{arith, ap, refl, sym, ◌∙◌, ◌<◌, length, slice_get, Some}
-use Rattle.channels.specs.Orders.{at, coordinator, stops}
-use Rattle.channels.specs.TaskChannels.{channel_on, sent_on}
+use Rattle.hub_ends.specs.Orders.{at, coordinator, stops}
+use Rattle.hub_ends.specs.TaskChannels.{channel_on, sent_on}
 use Rattle.hub_ends.specs.Messages.{closes, sender_of}
-use Rattle.channels.proofs.Handing.{at_map, get_map, map_same}
+use Rattle.hub_ends.proofs.Handed.{at_map, get_map, map_same}
 use Rattle.hub_ends.proofs.Handing.{channels_as}
-use Rattle.channels.proofs.InOrder.{in_order_as}
+use Rattle.hub_ends.proofs.InOrder.{in_order_as}
 use Rattle.hub_ends.proofs.coordinator_ends.CoordinatorEnds.settle.Goals as goal
 
 pub compare-orders-requires : goal.compare-orders-requires

@@ -1,6 +1,6 @@
 use Rattle.std.proofs.Common.{sym, ◌∙◌}
 use Rattle.hub_ends.specs.Hub.{IsStopped}
-use Rattle.channels.proofs.Handing.{below_more, ok_gives}
+use Rattle.hub_ends.proofs.Handed.{below_more, ok_gives}
 use Rattle.hub_ends.proofs.Handing.{hub_then}
 use Rattle.hub_ends.proofs.coordinator_ends.CoordinatorEnds.stop.Goals as goal
 use Rattle.hub_ends.proofs.coordinator_ends.CoordinatorEnds.stop.Goals.{then-is_err, else-is_err}

@@ -1,6 +1,6 @@
 use Rattle.std.proofs.Common.{◌≡◌, ◌<◌, ℕ, OnOk}
 use Rattle.hub_ends.specs.Hub.{IsSameHub, IsStopped, handed, received, staff}
-use Rattle.channels.specs.Orders.{at, tasks_in}
+use Rattle.hub_ends.specs.Orders.{at, tasks_in}
 use Rattle.hub_ends.proofs.coordinator_ends.CoordinatorEnds.stop.Given as goal
 
 abbrev pub invariant-loop-worker : goal.invariant-loop-worker

@@ -1,10 +1,10 @@
 use Rattle.std.proofs.Common.{arith, ap, refl, ◌∙◌, ◌<◌, length}
-use Rattle.channels.specs.TaskChannels.{channel_on, sent_on}
+use Rattle.hub_ends.specs.TaskChannels.{channel_on, sent_on}
 use Rattle.hub_ends.specs.Hub.{handed}
-use Rattle.channels.specs.Orders.{stops}
-use Rattle.channels.specs.Protocol.{has_bye}
-use Rattle.channels.specs.declared.order.Order.TheVariants.{Stop}
-use Rattle.channels.proofs.Handing.{at_map_set, length_map, map_maybe, map_same, on_ok, stops_keep, stops_tasks}
+use Rattle.hub_ends.specs.Orders.{stops}
+use Rattle.hub_ends.specs.Protocol.{has_bye}
+use Rattle.hub_ends.specs.declared.order.Order.TheVariants.{Stop}
+use Rattle.hub_ends.proofs.Handed.{at_map_set, length_map, map_maybe, map_same, on_ok, stops_keep, stops_tasks}
 use Rattle.hub_ends.proofs.Handing.{channels_as}
 use Rattle.hub_ends.proofs.coordinator_ends.CoordinatorEnds.stop_one.Goals as goal
 

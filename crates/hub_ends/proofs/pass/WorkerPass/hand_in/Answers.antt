@@ -1,6 +1,6 @@
 use Rattle.std.proofs.Common.{refl}
 use Rattle.hub_ends.specs.Messages.{closes}
-use Rattle.channels.proofs.Byes.{open_after}
+use Rattle.hub_ends.proofs.Byes.{open_after}
 use Rattle.hub_ends.proofs.pass.WorkerPass.hand_in.Goals as goal
 
 pub invariant_of-self-clause-open : goal.invariant_of-self-clause-open

@@ -1,4 +1,4 @@
-use Rattle.channels.specs.ChannelEnds.{sent_by}
+use Rattle.hub_ends.specs.ChannelEnds.{sent_by}
 use Rattle.hub_ends.proofs.Verdicts.{no_bye, verdict_sent}
 use Rattle.hub_ends.proofs.verdict.VerdictSender.tell.Goals as goal
 

@@ -1,4 +1,0 @@
-pub mod Printing
-pub mod JobLines
-pub mod Folders
-mod Noted

@@ -1,0 +1,3 @@
+pub mod JobLines
+pub mod Folders
+mod Noted

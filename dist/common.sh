@@ -123,12 +123,18 @@ await_crates() {
     done
 }
 
+# Proves these crates and all that they stand on, for what rt keeps of it, and removes the copy in this folder.
+prove_to_keep() {
+    prove_copy "$@" || return
+    rm -rf "$1"
+}
+
 # Proves each of these crates and all that it stands on, one crate after the other, in folders below $1.
 prove_each() {
     local name room=$1
     shift
     for name in "$@"; do
-        prove_copy "$room/$name" "$name" || return
+        prove_to_keep "$room/$name" "$name" || return
     done
 }
 
@@ -136,14 +142,15 @@ prove_each() {
 #
 # A run begins with the crates that have most lines of code above them. The threads of workers have few lines for what their proofs take.
 # So they would come last, and what stands on them would wait. A second job, with one check at a time, has nothing else to do than them and
-# what a run stands on. Where two runs come to a crate, one waits and takes what the other has proved.
+# what a run stands on. Where two runs come to a crate, one waits and takes what the other has proved. Each run takes up to half a minute
+# to begin and to take what is kept, so the second job makes few.
 begin_below() {
     local names
     mapfile -t names < <(crates_below pregel | grep -vx pregel)
     : >"$1/told"
-    RT_JOBS=$(checks_that_fit) prove_copy "$1/below" "${names[@]}" > >(tee -a "$1/told") &
+    RT_JOBS=$(checks_that_fit) prove_to_keep "$1/below" "${names[@]}" > >(tee -a "$1/told") &
     runs+=($!)
-    RT_JOBS=1 prove_each "$1" hub_ends worker_threads coordinator workers run_command &
+    RT_JOBS=1 prove_each "$1" hub_ends worker_threads workers &
     runs+=($!)
     await_crates "${runs[0]}" "$1/told" 2 "${names[@]}" || wait "${runs[0]}"
 }

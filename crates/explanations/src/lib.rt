@@ -7,5 +7,7 @@ mod explaining;
 mod listing;
 mod module_place;
 mod places;
+mod refusals;
 
 pub use choosing::{explanation, is_explained};
+pub use refusals::explain_refusal;

@@ -9,9 +9,9 @@ ghost use Rattle.plain_commands.specs.Outputs.{HasPrinted};
 ghost use Rattle.conversions.specs.Causes.{StaysBeforeWriting};
 ghost use Rattle.plain_commands.specs.Sheets.{asks_sheets};
 
-use crate::explaining::explain_refusal;
 use checkpoint::{Device, Folder};
 use conversions::{assemble_file, fit_file, import_file, print_file, upgrade_file};
+use explanations::explain_refusal;
 use line_text::{Output, WriteFailure};
 use plain_commands::{RunNotes, call_files, refuse, replay_files, tell, verify_file};
 use requests::Request;

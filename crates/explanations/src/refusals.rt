@@ -1,8 +1,8 @@
-//! Why the module of a command is refused, beside its answer.
+//! Why the module of a command is refused, shown beside its answer.
 
 ghost use Rattle.sources.specs.Disk.{Stays};
 
-use explanations::{explanation, is_explained};
+use crate::choosing::{explanation, is_explained};
 use requests::Request;
 use sources::{CommandFault, Files, read_source};
 use std::alloc::Global;

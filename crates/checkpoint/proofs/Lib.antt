@@ -1,3 +1,4 @@
+pub mod Appending
 pub mod Tools
 pub mod Fields
 pub mod Rows

@@ -125,15 +125,21 @@ fits_below work part vertices fits =
     let there = slice_get_within (map ids work.parts) part (map state_id vertices) fits in
     omega (arith, there, length-map work.parts ids)
 
+-- a part that fits is one of those that the job keeps
+pub below_here : (own work : Work) (parts : List Part) (part : ℕ) (vertices : List VertexState) → own ≡ work → map part_entries parts ≡ work.parts
+    → FitsPart own part vertices → part < length parts
+below_here own work parts part vertices which same fits =
+    let all : map part_entries parts ≡ own.parts = same ∙ ap (λ (w : Work). w.parts) (sym which) in
+    omega (arith, fits_below own part vertices fits, ap length all, length-map parts part_entries)
+
 -- the entries of a part that the job keeps
 pub entries_here : (own work : Work) (parts : List Part) (part : ℕ) (one : Part) (seen : List Vertex) (vertices : List VertexState) → own ≡ work
     → map part_entries parts ≡ work.parts → FitsPart own part vertices → one ≡ get_or parts part one → seen ≡ (get_or parts part one).vertices.items
     → entries_of seen ≡ get_or own.parts part []
 entries_here own work parts part one seen vertices which same fits is read =
     let all : map part_entries parts ≡ own.parts = same ∙ ap (λ (w : Work). w.parts) (sym which) in
-    let below = fits_below own part vertices fits in
     ap entries_of read
-    ∙ sym (get_or-map part_entries parts part one [] (omega (arith, ap length all, length-map parts part_entries)))
+    ∙ sym (get_or-map part_entries parts part one [] (below_here own work parts part vertices which same fits))
     ∙ ap (λ (lists : List (List Entry)). get_or lists part []) all
 
 pub fits_ids : (work : Work) (part : ℕ) (vertices : List VertexState) → FitsPart work part vertices

@@ -1,5 +1,5 @@
 -- What a walk keeps.
-use Rattle.std.proofs.Common.{◌≡◌, ◌≢◌, ℕ, zero, suc, ◌+◌, ◌<◌, ◌≤◌, min, ◌⊎◌, inl, inr, List, [], ◌∷◌, length, get_or, set, refl, sym, ap, subst, ◌∙◌, arith}
+use Rattle.std.proofs.Common.{◌≡◌, ◌≢◌, ℕ, zero, suc, ◌+◌, ◌<◌, ◌≤◌, min, below_more, ◌⊎◌, inl, inr, List, [], ◌∷◌, length, get_or, set, refl, sym, ap, subst, ◌∙◌, arith}
 use Rattle.std.specs.Prelude.{sum_by}
 use Rattle.std.proofs.Math.Path.{fun_ext}
 use Rattle.std.proofs.lemmas.List.{get_or-set_same, get_or-set_other}
@@ -57,6 +57,20 @@ unseen_before os f ms ns xs k w g e = by_mark (mark_at ms g) refl
     by_mark Open h = let n : mark_at ms g ≡ Unseen → ⊥ = λ u. open_not_unseen (mark_at ms g) h u in sym (w.kept g n) ∙ e
     by_mark (Done rank size) h =
         let n : mark_at ms g ≡ Unseen → ⊥ = λ u. done_not_unseen (mark_at ms g) (subst IsDone (sym h) tt) u in sym (w.kept g n) ∙ e
+
+-- on the way, once one more call is walked
+pub goes_on : (os : Outlines) (f : ℕ) (ms ns after : List Mark) (xs : List ℕ) (k : ℕ) → Walking os f ms ns xs k → Walked os (get_or xs k 0) ns after → Walking os f ms after xs (k + 1)
+goes_on os f ms ns after xs k w walked = record {
+  settled = walked.settled;
+  open_here = walked.kept f (open_not_unseen (mark_at ns f) w.open_here) ∙ w.open_here;
+  kept = λ g seen. walked.kept g (λ e. seen (sym (w.kept g seen) ∙ e)) ∙ w.kept g seen;
+  opened = λ g e other. w.opened g (walked.opened g e) other;
+  fewer = omega (arith, w.fewer, walked.fewer);
+  done = below_more (λ j. IsDone (mark_at after (get_or xs j 0))) k (λ j h.
+      let d = w.done j h in
+      subst IsDone (sym (walked.kept (get_or xs j 0) (done_not_unseen (mark_at ns (get_or xs j 0)) d))) d)
+      walked.done;
+}
 
 module _ (os : Outlines) (f : ℕ) (ms : List Mark) (st : Settled os ms) (un : mark_at ms f ≡ Unseen) where
   at_f : mark_at (set ms f Open) f ≡ Open

@@ -1,14 +1,19 @@
 -- One line after another: what was collected of the lines so far.
-use Rattle.std.proofs.Common.{◌≡◌, ℕ, ◌+◌, ◌<◌, ◌≤◌, List, [], ◌∷◌, ◌++◌, length, take, drop, get_or, ap, sym, ◌∙◌, arith, length-append}
+use Rattle.std.proofs.Common.{◌≡◌, ℕ, ℤ, ◌+◌, ◌<◌, ◌≤◌, true, List, [], ◌∷◌, ◌++◌, length, map, take, drop, get_or}
+use Rattle.std.proofs.Common.{ap, refl, sym, ◌∙◌, arith, length-append}
 use Rattle.std.specs.List.{enumerate_from}
 use Rattle.std.specs.Str.Lines.{lines}
-use Rattle.std.proofs.lemmas.List.{take_more, take-append-drop, get_or-map, get_or_append_left, take_all, length-map}
+use Rattle.std.proofs.lemmas.List.{append-nil, map-append, take_more, take-append-drop, get_or-map, get_or_append_left, take_all, length-map}
+use Rattle.std.proofs.lemmas.List.Elements.{All-push}
 use Rattle.std.proofs.lemmas.List.FromFn.{length-enumerate_from, get_or-enumerate_from}
 use Rattle.std.proofs.lemmas.Grind.{flat_map-append}
 use Rattle.graph.specs.declared.collect.Collected.{Collected}
 use Rattle.graph.specs.declared.line.Line.{Line}
-use Rattle.graph.specs.inside.Collected.{CanBeSaid, Says}
-use Rattle.graph.specs.Line.{line_of}
+use Rattle.graph.specs.declared.line.Line.TheVariants as line
+use Rattle.graph.specs.declared.vertex.Edge.{Edge}
+use Rattle.graph.specs.Entry.{entry_of}
+use Rattle.graph.specs.inside.Collected.{AddsEdge, AddsLine, AddsVertex, CanBeSaid, IsFullOfEdges, IsFullOfVertices, RefusesLine, Says, bare}
+use Rattle.graph.specs.Line.{is_good, line_of}
 use Rattle.graph.specs.Said.{all_declared, all_edges, declared_by, lines_of, said_by}
 
 -- what can be said, can be said of its first lines
@@ -55,3 +60,70 @@ pub says_all : (text : List ℕ) (read : ℕ) (collected : Collected) → Says (
 says_all text read collected says all =
     let past : length (lines_of text) ≤ read = omega (arith, length-enumerate_from 0 (lines text), length-map (lines text) line_of) in
     rw take_all at says
+
+declared_more : (before : List Line) (line : Line) → all_declared (before ++ line ∷ []) ≡ all_declared before ++ all_declared (line ∷ [])
+declared_more before line = flat_map-append declared_by before (line ∷ [])
+
+edges_more : (before : List Line) (line : Line) → all_edges (before ++ line ∷ []) ≡ all_edges before ++ all_edges (line ∷ [])
+edges_more before line = flat_map-append said_by before (line ∷ [])
+
+count_vertices : (before : List Line) (old : Collected) → Says before old → length old.vertices.items ≡ length (all_declared before)
+count_vertices before old says =
+    sym (length-map old.vertices.items entry_of) ∙ ap length says.vertices ∙ length-map (all_declared before) bare
+
+-- a vertex for which there is room is added
+pub vertex_added : (id : ℕ) (value : ℤ) (edges : List (ℕ × ℤ)) (old new : Collected) → edges ≡ []
+    → AddsVertex old new (record { id = id; value = value; edges = edges }) → AddsLine (line.Vertex id value) old new
+vertex_added id value edges old new none adds = λ before says.
+    let vertices = declared_more before (line.Vertex id value) in
+    let longer = length-append (all_declared before) ((id, value) ∷ []) in
+    let others : all_edges (before ++ line.Vertex id value ∷ []) ≡ all_edges before =
+    edges_more before (line.Vertex id value) ∙ append-nil (all_edges before) in
+    record {
+      can = record {
+        good = All-push (λ each. is_good each ≡ true) before (line.Vertex id value) says.can.good refl;
+        within = record {
+          vertices = omega (arith, adds.room, count_vertices before old says, ap length vertices, longer);
+          edges = omega (arith, says.can.within.edges, ap length others);
+        };
+      };
+      vertices =
+          adds.vertices
+          ∙ (λ i. says.vertices i ++ record { id = id; value = value; edges = none i } ∷ [])
+          ∙ sym (map-append bare (all_declared before) ((id, value) ∷ []))
+          ∙ ap (map bare) (sym vertices);
+      edges = adds.edges ∙ says.edges ∙ sym others;
+    }
+
+-- an edge for which there is room is added
+pub edge_added : (from target : ℕ) (value : ℤ) (old new : Collected) → AddsEdge old new (record { from = from; target = target; value = value })
+    → AddsLine (line.Edge from target value) old new
+edge_added from target value old new adds = λ before says.
+    let edge : Edge = record { from = from; target = target; value = value } in
+    let edges = edges_more before (line.Edge from target value) in
+    let others : all_declared (before ++ line.Edge from target value ∷ []) ≡ all_declared before =
+    declared_more before (line.Edge from target value) ∙ append-nil (all_declared before) in
+    record {
+      can = record {
+        good = All-push (λ each. is_good each ≡ true) before (line.Edge from target value) says.can.good refl;
+        within = record {
+          vertices = omega (arith, says.can.within.vertices, ap length others);
+          edges = omega (arith, adds.room, ap length says.edges, ap length edges, length-append (all_edges before) (edge ∷ []));
+        };
+      };
+      vertices = adds.vertices ∙ says.vertices ∙ ap (map bare) (sym others);
+      edges = adds.edges ∙ (λ i. says.edges i ++ edge ∷ []) ∙ sym edges;
+    }
+
+-- a vertex for which there is no room is refused
+pub vertex_refused : (id : ℕ) (value : ℤ) (old : Collected) → IsFullOfVertices old → RefusesLine (line.Vertex id value) old
+vertex_refused id value old full = λ before says can.
+    let all = ap length (declared_more before (line.Vertex id value)) in
+    omega (arith, full, can.within.vertices, count_vertices before old says, all, length-append (all_declared before) ((id, value) ∷ []))
+
+-- an edge for which there is no room is refused
+pub edge_refused : (from target : ℕ) (value : ℤ) (old : Collected) → IsFullOfEdges old → RefusesLine (line.Edge from target value) old
+edge_refused from target value old full = λ before says can.
+    let edge : Edge = record { from = from; target = target; value = value } in
+    let all = ap length (edges_more before (line.Edge from target value)) in
+    omega (arith, full, can.within.edges, ap length says.edges, all, length-append (all_edges before) (edge ∷ []))

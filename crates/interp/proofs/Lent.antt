@@ -48,7 +48,7 @@ module _ (from : ℕ) (whole cells : List ℕ) (same : whole ≡ cells) where
 -- ---- as it comes back
 
 module _ (from long : ℕ) (whole part cells : List ℕ) (h : IsLent from long whole part cells) where
-  part_long : length part ≡ length whole - from
+  pub part_long : length part ≡ length whole - from
   part_long = omega (arith, h.kept, length-take-le (length whole - from) (drop from whole) (omega (arith, length-drop from whole)), length-drop from whole)
 
   none_left : post_of from (length whole - from) whole ≡ []
@@ -97,7 +97,7 @@ module _ (from long : ℕ) (whole part cells : List ℕ) (h : IsLent from long w
   pub back_under : take from (map I64 (given_back from long whole part cells)) ≡ take from (map I64 cells)
   back_under = take-map I64 from (given_back from long whole part cells) ∙ ap (λ (l : List ℕ). map I64 l) back_front ∙ sym (take-map I64 from cells)
 
-  back_long : length (given_back from long whole part cells) ≡ length cells
+  pub back_long : length (given_back from long whole part cells) ≡ length cells
   back_long =
       ap (λ (l : List ℕ). length l) back_is ∙ ap (λ (l : List ℕ). length (take from l ++ part)) (sym h.same)
       ∙ written_long ∙ sym h.all ∙ ap (λ (l : List ℕ). length l) h.same

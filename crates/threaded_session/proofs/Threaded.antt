@@ -14,3 +14,7 @@ pub threaded_end : (work : Work) (end : Result Report JobFault) → IfOk end (λ
     → IfOk end (λ report. trusts true report.epoch ≡ true → report.ended.since ≡ 0) → IfOk end IsCalmReport → IfErr end IsRunFault → IsThreadedEnd work end
 threaded_end work (Ok report) answer since calm refused = let sure = trusts_sure true report.epoch refl in (answer sure, since sure, calm)
 threaded_end work (Err fault) answer since calm refused = refused
+
+pub plain_end : (work : Work) (end : Result Report JobFault) → IsThreadedEnd work end → IfOk end (λ report. IsEndOf work report.ended)
+plain_end work (Ok report) ends = ends.0
+plain_end work (Err fault) ends = tt

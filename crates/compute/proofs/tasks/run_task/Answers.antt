@@ -1,4 +1,4 @@
-use Rattle.std.proofs.Common.{◌≡◌, ℕ, true, List, All, length, map, ap, sym, ◌∙◌, subst, arith}
+use Rattle.std.proofs.Common.{◌≡◌, ℕ, ◌*◌, ◌<◌, true, List, All, length, map, Fits, w64, ap, sym, ◌∙◌, subst, arith}
 use Rattle.wasm_ast.specs.declared.module.Module.{Module}
 use Rattle.graph.specs.Entry.{Entry, entries_of, ids}
 use Rattle.job_state.specs.declared.state.VertexState.{VertexState}
@@ -10,8 +10,31 @@ use Rattle.superstep.specs.Tasks.{AreAggregatesAt, AreUnitsAt, FitsPart, IsDone,
 use Rattle.job_state.specs.inside.DueRows.{due_rows}
 use Rattle.superstep.specs.inside.Called.{HasProperIds, Tells}
 use Rattle.compute.specs.inside.PartOutput.{CallsPart}
-use Rattle.compute.proofs.PartLeft.{done_here, entries_here, fits_below, fits_ids, proper_here, units_here, whole_slice}
+use Rattle.compute.proofs.PartLeft.{below_here, done_here, entries_here, fits_below, fits_ids, proper_here, units_here, whole_slice}
 use Rattle.compute.proofs.tasks.run_task.Goals as goal
+
+number_fits : (part : ℕ) → part < 4294967296 → Fits w64 part
+number_fits part few = omega arith
+
+offset_fits : (part : ℕ) → part < 4294967296 → Fits w64 (part * 24)
+offset_fits part few = omega arith
+
+pub overflow_cast-entries : goal.overflow_cast-entries
+overflow_cast-entries g c = number_fits c.part-part.result c.part-part.type_inv
+
+pub offset_bounds-parts-part : goal.offset_bounds-parts-part
+offset_bounds-parts-part g c = offset_fits c.part-part.result c.part-part.type_inv
+
+pub bounds-parts-part : goal.bounds-parts-part
+bounds-parts-part g c =
+    let work = g.J.Origin.work in
+    let part = c.part-part.result in
+    let vertices = c.into_parts-states.result.0 in
+    let fits : FitsPart work part vertices = subst (λ (n : ℕ). FitsPart work n vertices) (sym c.part-part.ensures) c.into_parts-states.ensures.fits in
+    below_here work c.args.job.now c.parts.result.now part vertices c.requires.job c.parts.ensures.parts fits
+
+pub run_part-ran-requires-clause-fits : goal.run_part-ran-requires-clause-fits
+run_part-ran-requires-clause-fits g c = c.requires.fits ∙ sym c.verified.ensures
 
 pub run_part-ran-requires-clause-same : goal.run_part-ran-requires-clause-same
 run_part-ran-requires-clause-same g c =

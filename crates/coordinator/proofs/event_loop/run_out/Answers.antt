@@ -1,5 +1,6 @@
 use Rattle.book.proofs.Keeps.{keeps_same}
 use Rattle.std.proofs.Common.{map, true≢false, refl, sym, ◌∙◌}
+use Rattle.std.proofs.lemmas.Bool.{false≢true}
 use Rattle.hub_ends.specs.Hub.{handed, received}
 use Rattle.hub_ends.proofs.Handing.{hub_same, hub_then}
 use Rattle.hub_ends.specs.Verdicts.{told_on}
@@ -104,3 +105,18 @@ returns-in_err-tell_due-clause-lines g c = c.tell_due.ensures.lines ∙ c.loop.i
 
 pub returns-in_err-tell_due-clause-hub : goal.returns-in_err-tell_due-clause-hub
 returns-in_err-tell_due-clause-hub g c = hub_then c.loop.invariant.hub (hub_then c.offer_or_stop.ensures.hub c.in_ok-taken.ensures.hub)
+
+pub offer_or_stop-requires : goal.offer_or_stop-requires
+offer_or_stop-requires g c = record { stopped = c.loop.invariant.over }
+
+pub returns-then-all_gone-clause-ended : goal.returns-then-all_gone-clause-ended
+returns-then-all_gone-clause-ended g c = (c.in_ok-offer_or_stop.ensures.stopped c.if-stopped.true).ended
+
+pub returns-then-all_gone-clause-byes : goal.returns-then-all_gone-clause-byes
+returns-then-all_gone-clause-byes g c = c.all_gone.ensures c.if-all_gone.true
+
+pub returns-then-all_gone-clause-stopped : goal.returns-then-all_gone-clause-stopped
+returns-then-all_gone-clause-stopped g c = (c.in_ok-offer_or_stop.ensures.stopped c.if-stopped.true).stopped
+
+pub unreachable-requires : goal.unreachable-requires
+unreachable-requires g c = false≢true c.in-None.ensures.steps

@@ -3,7 +3,7 @@ use Rattle.std.specs.Prelude.{sum_by}
 use Rattle.cost.specs.inside.Outline.{cap}
 use Rattle.cost.specs.inside.Outlines.{outline_at, own_at, called}
 use Rattle.cost.specs.Marks.{size_at}
-use Rattle.cost.proofs.Walking.{begins, has_mark, called_there, room, ends, unseen_before}
+use Rattle.cost.proofs.Walking.{begins, has_mark, called_there, goes_on, room, ends, unseen_before}
 use Rattle.cost.proofs.walk.+visit.Goals as goal
 
 pub loop-callee-init : goal.loop-callee-init
@@ -28,3 +28,8 @@ returns-clause-walked t c =
     let lt : c.args.function < length c.loop-callee.ranks = omega (arith, c.requires.settled.long, c.loop-callee.invariant.settled.long, has_mark c.args.ranks.now c.args.function (sym c.in-Unseen.ensures)) in
     let size : c.whole_size-size.result ≡ min cap (own_at (outline_at c.args.outlines.now c.args.function) + sum_by (size_at c.loop-callee.ranks) c.called-callees.result.now) = c.whole_size-size.ensures ∙ ap (λ n. min cap (n + sum_by (size_at c.loop-callee.ranks) c.called-callees.result.now)) c.own.ensures in
     rw c.finish.ensures (ends c.args.outlines.now c.args.function c.args.ranks.now c.loop-callee.ranks c.height-rank.result c.whole_size-size.result (sym c.in-Unseen.ensures) lt c.called-callees.result.now c.loop-callee.callee-index c.called-callees.ensures c.loop-callee-test.false c.loop-callee.invariant c.height-rank.ensures size)
+
+pub loop-callee-preserved : goal.loop-callee-preserved
+loop-callee-preserved t c =
+    goes_on c.args.outlines.now c.args.function c.args.ranks.now c.loop-callee.ranks c.visit.new.ranks c.called-callees.result.now c.loop-callee.callee-index
+    c.loop-callee.invariant c.in_default.ensures.walked

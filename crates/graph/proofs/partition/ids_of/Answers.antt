@@ -1,5 +1,5 @@
-use Rattle.std.proofs.Common.{◌≡◌, [], ◌∷◌, ◌++◌, get_or, ap, sym, ◌∙◌, arith}
-use Rattle.std.proofs.lemmas.List.{map_more}
+use Rattle.std.proofs.Common.{◌≡◌, [], ◌∷◌, ◌++◌, get_or, map, ap, sym, ◌∙◌, arith}
+use Rattle.std.proofs.lemmas.List.{map_more, take_all}
 use Rattle.graph.proofs.partition.ids_of.Goals as goal
 
 pub loop-element-preserved : goal.loop-element-preserved
@@ -17,3 +17,8 @@ loop-element-preserved g c =
 
 pub push_reserved-requires : goal.push_reserved-requires
 push_reserved-requires g c = omega (arith, c.loop-element.invariant.len, c.loop-element.invariant.room, c.loop-element-test.true)
+
+pub returns : goal.returns
+returns g c =
+    let all = take_all c.loop-element.element-index c.args.elements.now c.loop-element-test.false in
+    c.loop-element.invariant.ids ∙ ap (map g.T.Identified.id) all

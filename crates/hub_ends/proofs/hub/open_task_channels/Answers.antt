@@ -1,4 +1,4 @@
-use Rattle.std.proofs.Common.{◌∷◌, [], ap, arith, map, rules, subst, sym, ◌∙◌}
+use Rattle.std.proofs.Common.{◌≡◌, ◌+◌, ◌∷◌, [], ap, arith, map, rules, subst, sym, ◌∙◌}
 use mathlib.Core.List.{map-append}
 use Rattle.hub_ends.specs.Orders.{at}
 use Rattle.hub_ends.specs.TaskChannels.{channel_on, sent_on}
@@ -36,3 +36,23 @@ loop-worker-preserved g c =
       rooms = rooms_more 2 (map channel_on task_channels.items) _ (channel_on one.task_channel) i.rooms one.ensures.room more;
       gone = i.gone;
     }
+
+pub returns-clause-filled : goal.returns-clause-filled
+returns-clause-filled g c =
+    let i = c.loop-worker.invariant in
+    let all : c.loop-worker.worker ≡ c.args.workers = omega (arith, c.loop-worker-test.false, c.loop-worker.auto.worker-end) in
+    record { task_channels = i.task_channels ∙ all; passes = i.passes ∙ all; nothing = i.nothing; new = i.new; rooms = i.rooms }
+
+pub returns-clause-gone : goal.returns-clause-gone
+returns-clause-gone g c = c.loop-worker.invariant.gone
+
+pub returns-clause-senders : goal.returns-clause-senders
+returns-clause-senders g c =
+    let all : c.loop-worker.worker ≡ c.args.workers = omega (arith, c.loop-worker-test.false, c.loop-worker.auto.worker-end) in
+    c.loop-worker.invariant.senders ∙ ap (λ n. n + 1) all
+
+pub returns-clause-received : goal.returns-clause-received
+returns-clause-received g c = c.loop-worker.invariant.received
+
+pub returns-clause-channel : goal.returns-clause-channel
+returns-clause-channel g c = c.loop-worker.invariant.channel

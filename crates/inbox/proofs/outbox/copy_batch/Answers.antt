@@ -1,7 +1,8 @@
-use Rattle.std.proofs.Common.{◌≡◌, ◌++◌, ◌∷◌, [], ℤ, Vec, Global, pos, get_or, ap, rules, sym, to_z, of_z, w64, ◌∙◌}
+use Rattle.std.proofs.Common.{◌≡◌, ◌++◌, ◌∷◌, [], ℤ, Vec, Global, pos, filter, get_or, ap, rules, sym, to_z, of_z, w64, ◌∙◌}
 use Rattle.std.proofs.lemmas.Int.{to_z-of_z}
+use Rattle.std.proofs.lemmas.List.{take_all}
 use Rattle.inbox.specs.declared.letters.Letter.{Letter}
-use Rattle.inbox.specs.Merging.{letter_sent}
+use Rattle.inbox.specs.Merging.{letter_sent, letters_sent}
 use Rattle.inbox.specs.inside.Shares.{goes_into}
 use Rattle.inbox.proofs.Sending.{one_fails, one_passes}
 use Rattle.inbox.proofs.outbox.copy_batch.Goals as goal
@@ -31,3 +32,8 @@ loop-seq-preserved c =
           ∙ c.loop-seq.invariant
           ∙ sym (one_fails within id sends seq (pos 0, pos 0) before c.loop-seq-test.true (sym tested ∙ w.if-takes.false))
     ]
+
+pub returns : goal.returns
+returns c =
+    let all = take_all c.loop-seq.seq c.args.batch.sends.now c.loop-seq-test.false in
+    c.loop-seq.invariant ∙ ap (λ sends. c.args.letters.now.items ++ filter (goes_into c.args.targets) (letters_sent c.args.batch.id sends)) all

@@ -1,10 +1,10 @@
-use Rattle.std.proofs.Common.{◌≡◌, List, ◌+◌, ◌-◌, map, drop, length, reverse, sym, ap, ◌∙◌, arith}
+use Rattle.std.proofs.Common.{◌≡◌, ◌≤◌, List, ◌+◌, ◌-◌, map, drop, length, reverse, sym, ap, ◌∙◌, subst, arith}
 use Rattle.wasm_ast.specs.declared.types.Value.{Value}
 use Rattle.wasm_ast.specs.declared.types.Value.TheVariants.{I64}
 use Rattle.verified.specs.View.{code_of}
 use Rattle.interp.specs.inside.OperandStack.{operand_stack}
 use Rattle.interp.specs.inside.Split.{Below, free_of}
-use Rattle.interp.proofs.Lent.{IsLent, back_lower, back_cells, back_here, back_under, given_back, lent, lent_cells, lent_here, lent_long}
+use Rattle.interp.proofs.Lent.{IsLent, back_lower, back_cells, back_here, back_long, back_under, given_back, lent, lent_cells, lent_here, lent_long, part_long}
 use Rattle.interp.proofs.Passing.{leads_same, passes_same, sends_same}
 use Rattle.interp.proofs.OperandStacks.{free_is, held}
 use Rattle.interp.proofs.Sending.{on_any}
@@ -118,3 +118,58 @@ returns-in_err-stop-clause-sends c =
     let cells : map I64 (lent l.base others) ≡ c.args.locals.now.here =
     lent_cells l.base others l.cells.items c.deref_mut-2.ensures.value ∙ ap (λ s. s.here) c.locals.view_is in
     on_any _ _ (sends_same c.args.program.module.now max_count (code_of c.args.code.now) (code_of c.args.code.now) (operand_stack (lent o.floor whole) (o.top - o.floor)) c.args.operands.now.here (map I64 (lent l.base others)) c.args.locals.now.here here cells c.args.globals.now.here c.args.bytes.now c.args.host.now c.args.host.now c.args.count c.in_err-stop.ensures.sends)
+
+pub invariant_of-operands : goal.invariant_of-operands
+invariant_of-operands c =
+    let o = c.operands.inside in
+    let part = c.run_straight.new.cells in
+    let whole = c.deref_mut.result.now in
+    let h : IsLent o.floor o.cells.len whole part o.cells.items = record {
+      same = c.deref_mut.ensures.value;
+      all = omega (arith, c.deref_mut.ensures.len);
+      within = omega (arith, ap (λ k. length k) c.deref_mut.ensures.value, c.operands.invariant.0, c.operands.invariant.1);
+      kept = omega (arith, c.run_straight.auto.cells);
+    } in
+    (c.operands.invariant.0, subst (λ n. o.top ≤ n) (sym (back_long o.floor o.cells.len whole part o.cells.items h)) c.operands.invariant.1)
+
+pub invariant_of-locals : goal.invariant_of-locals
+invariant_of-locals c =
+    let l = c.locals.inside in
+    let part = c.run_straight.new.locals in
+    let others = c.deref_mut-2.result.now in
+    let g : IsLent l.base l.cells.len others part l.cells.items = record {
+      same = c.deref_mut-2.ensures.value;
+      all = omega (arith, c.deref_mut-2.ensures.len);
+      within = omega (arith, ap (λ k. length k) c.deref_mut-2.ensures.value, c.locals.invariant.0);
+      kept = omega (arith, c.run_straight.auto.locals);
+    } in
+    (subst (λ n. l.base ≤ n) (sym (back_long l.base l.cells.len others part l.cells.items g)) c.locals.invariant.0, c.locals.invariant.1)
+
+pub invariant_of-operands-2 : goal.invariant_of-operands-2
+invariant_of-operands-2 c =
+    let o = c.operands.inside in
+    let part = c.run_straight.new.cells in
+    let whole = c.deref_mut.result.now in
+    let h : IsLent o.floor o.cells.len whole part o.cells.items = record {
+      same = c.deref_mut.ensures.value;
+      all = omega (arith, c.deref_mut.ensures.len);
+      within = omega (arith, ap (λ k. length k) c.deref_mut.ensures.value, c.operands.invariant.0, c.operands.invariant.1);
+      kept = omega (arith, c.run_straight.auto.cells);
+    } in
+    let long = part_long o.floor o.cells.len whole part o.cells.items h in
+    let fits : o.floor + c.in_ok-stop.stop.top ≤ length o.cells.items =
+    omega (arith, c.in_ok-stop.ensures.within, long, ap (λ k. length k) c.deref_mut.ensures.value, h.within) in
+    (omega arith, subst (λ n. o.floor + c.in_ok-stop.stop.top ≤ n) (sym (back_long o.floor o.cells.len whole part o.cells.items h)) fits)
+
+pub invariant_of-locals-2 : goal.invariant_of-locals-2
+invariant_of-locals-2 c =
+    let l = c.locals.inside in
+    let part = c.run_straight.new.locals in
+    let others = c.deref_mut-2.result.now in
+    let g : IsLent l.base l.cells.len others part l.cells.items = record {
+      same = c.deref_mut-2.ensures.value;
+      all = omega (arith, c.deref_mut-2.ensures.len);
+      within = omega (arith, ap (λ k. length k) c.deref_mut-2.ensures.value, c.locals.invariant.0);
+      kept = omega (arith, c.run_straight.auto.locals);
+    } in
+    (subst (λ n. l.base ≤ n) (sym (back_long l.base l.cells.len others part l.cells.items g)) c.locals.invariant.0, c.locals.invariant.1)

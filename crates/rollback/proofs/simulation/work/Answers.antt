@@ -1,8 +1,10 @@
 use Rattle.std.proofs.Common.{◌≡◌, sym, rules, refl, ◌∙◌, ap, Some, None, get_or}
 use Rattle.std.specs.Prelude.{option_map}
+use Rattle.control.specs.Machine.{Machine}
 use Rattle.control.specs.Stamps.{task_out}
 use Rattle.rollback.specs.inside.Simulating.{sim_of, stamps}
 use Rattle.book.proofs.Counts.{kept_still}
+use Rattle.book.proofs.Keeps.{keeps_same}
 use Rattle.rollback.proofs.Simulated
 use Rattle.rollback.proofs.simulation.work.Goals as goal
 
@@ -108,3 +110,12 @@ returns-clause-runner g c = c.done_by-event-2.ensures.runner
 
 pub returns-clause-keep : goal.returns-clause-keep
 returns-clause-keep g c = c.tell-2.ensures.keep
+
+pub tell-requires : goal.tell-requires
+tell-requires g c = (c.type_bounds.sync-R, c.requires.keep)
+
+pub tell-requires-2 : goal.tell-requires-2
+tell-requires-2 g c =
+    let keep = c.args.keep.now in
+    let saved : c.next_task.new.self.saved ≡ c.args.book.now.saved = ap (λ (m : Machine). m.saved) c.in-Some-next_task.ensures.some.1 in
+    (c.type_bounds.sync-R, keeps_same g.J.Origin.work g.J.Origin.honest (g.K.Keep.honest keep) (g.K.Keep.saved keep) (g.K.Keep.may_load keep) c.args.book.now c.next_task.new.self saved c.requires.keep)

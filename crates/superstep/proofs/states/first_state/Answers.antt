@@ -1,5 +1,5 @@
-use Rattle.std.proofs.Common.{◌≡◌, List, map, refl, ap, sym, subst, ◌∙◌}
-use Rattle.std.proofs.lemmas.List.{take_all}
+use Rattle.std.proofs.Common.{◌≡◌, [], ◌∷◌, ◌++◌, List, get_or, map, take, refl, ap, sym, subst, ◌∙◌}
+use Rattle.std.proofs.lemmas.List.{map-append, map_more, take_all}
 use Rattle.graph.specs.Entry.{Entry}
 use Rattle.graph.specs.Parts.{part_entries}
 use Rattle.graph.specs.declared.parts.Part.{Part}
@@ -29,6 +29,20 @@ made c graph is = record {
   aggregates = c.aggregator_starts.ensures;
   vertices = ap in_order (parts c) ∙ firsts_in_order c.args.job.now graph (some_parts c.args.job.now.settings c.parts-part-items.ensures.good) is;
 }
+
+pub loop-part-preserved : goal.loop-part-preserved
+loop-part-preserved c =
+    let parts = c.parts-part-items.result.now in
+    let index = c.loop-part.part-index in
+    let part = c.part-item.result in
+    let before = map part_entries (take index parts) in
+    let here = part_entries (get_or parts index part) in
+    let own : c.in_ok-states.states ≡ first_vertices here =
+    c.in_ok-states.ensures ∙ c.in_ok-vertices.ensures ∙ ap (λ (part : Part). first_vertices (part_entries part)) c.part-item.is in
+    c.in_ok-push.ensures.items
+    ∙ (λ i. c.loop-part.invariant i ++ own i ∷ [])
+    ∙ sym (map-append first_vertices before (here ∷ []))
+    ∙ ap (map first_vertices) (sym (map_more part_entries parts index part c.loop-part-test.true))
 
 pub of_parts-requires : goal.of_parts-requires
 of_parts-requires c =

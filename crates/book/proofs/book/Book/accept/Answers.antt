@@ -1,4 +1,4 @@
-use Rattle.std.proofs.Common.{◌≡◌, true, subst, rules}
+use Rattle.std.proofs.Common.{◌≡◌, ◌∙◌, false, true, subst, sym, rules}
 use Rattle.control.specs.Machine.{Machine, is_running}
 use Rattle.control.specs.Events.{Heard, accepted, on_event}
 use Rattle.control.specs.Events.Stamp.{DoneBy, FailedBy, JoinedBy, LostBy, Ticked}
@@ -107,3 +107,27 @@ returns-then-not-is_running-clause-left g c = (on_event_steady g.J.Origin.work g
 
 pub returns-then-not-is_running-clause-loads : goal.returns-then-not-is_running-clause-loads
 returns-then-not-is_running-clause-loads g c = (on_event_steady g.J.Origin.work g.J.Origin.honest _ c.args.self.now c.note_after_end.new.self (g.K.Keep.honest c.args.keep.now) (g.K.Keep.saved c.args.keep.now) (g.K.Keep.may_load c.args.keep.now) (g.K.Keep.faults c.args.keep.now) c.note_after_end.result c.note_after_end.ensures.step c.note_after_end.ensures.steady c.requires.keep).loads
+
+pub on_done-requires : goal.on_done-requires
+on_done-requires g c =
+    let running = subst (λ (m : Machine). is_running m.ending ≡ true) c.self.view_is (sym c.is_running.ensures ∙ c.if-not-is_running.false) in
+    (c.type_bounds.sync-R, (running, c.requires.keep))
+
+pub on_lost-requires : goal.on_lost-requires
+on_lost-requires g c =
+    let running = subst (λ (m : Machine). is_running m.ending ≡ true) c.self.view_is (sym c.is_running.ensures ∙ c.if-not-is_running.false) in
+    (c.type_bounds.sync-R, (running, c.requires.keep))
+
+pub on_tick-requires : goal.on_tick-requires
+on_tick-requires g c =
+    let running = subst (λ (m : Machine). is_running m.ending ≡ true) c.self.view_is (sym c.is_running.ensures ∙ c.if-not-is_running.false) in
+    (c.type_bounds.sync-R, (running, c.requires.keep))
+
+pub on_failed-requires : goal.on_failed-requires
+on_failed-requires g c = record { running = subst (λ (m : Machine). is_running m.ending ≡ true) c.self.view_is (sym c.is_running.ensures ∙ c.if-not-is_running.false) }
+
+pub on_joined-requires : goal.on_joined-requires
+on_joined-requires g c = record { running = subst (λ (m : Machine). is_running m.ending ≡ true) c.self.view_is (sym c.is_running.ensures ∙ c.if-not-is_running.false) }
+
+pub note_after_end-requires : goal.note_after_end-requires
+note_after_end-requires g c = record { over = subst (λ (m : Machine). is_running m.ending ≡ false) c.self.view_is (sym c.is_running.ensures ∙ c.if-not-is_running.true) }

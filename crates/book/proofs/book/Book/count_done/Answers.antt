@@ -5,6 +5,7 @@ use Rattle.control.specs.declared.answer.Answer.TheVariants.{Stale, Taken}
 use Rattle.control.specs.Machine.{Machine, all_set, counts, finished, freed, is_running}
 use Rattle.control.specs.Events.{Heard, done_step, stale_done}
 use Rattle.control.specs.Stamps.{done_out}
+use Rattle.book.proofs.Keeps.{keeps_same}
 use Rattle.book.proofs.Kept
 use Rattle.control.proofs.Sound.{stale_is, taken_is}
 use Rattle.book.proofs.Steps.{counted_on_event, on_event_steady, plain, plain_step, reply_running}
@@ -77,3 +78,14 @@ invariant_of-self-else-finish g c =
     let near = subst (λ (m : Machine). c.args.worker < length m.alive) (sym c.self.view_is) c.requires.worker in
     rw (c.finish.ensures.after, c.free.ensures) (rw c.out_of-task.ensures (Kept.book_taken_in g.J.Origin.work g.J.Origin.honest i.job.now i.control i.ids.items i.job_data _ c.args.worker (done_out c.args.done) near (subst (λ (m : Machine). is_running m.ending ≡ true) (sym c.self.view_is) c.requires.running)
     (subst (λ o. counts i.control c.args.worker o ≡ true) c.out_of-task.ensures (sym c.counts.ensures ∙ c.if-not-counts.false)) c.bring_back.ensures c.self.invariant))
+
+pub close-requires : goal.close-requires
+close-requires g c =
+    let m = c.args.self.now in
+    let free = c.free.ensures ∙ ap (λ (x : Machine). freed x c.args.worker) c.self.view_is in
+    let is : c.finish.new.self ≡ finished (freed m c.args.worker) c.out_of-task.result.part =
+    c.finish.ensures.after ∙ ap (λ (x : Machine). finished x c.out_of-task.result.part) free in
+    let running = subst (λ (x : Machine). is_running x.ending ≡ true) (sym is) c.requires.running in
+    let keeps = keeps_same g.J.Origin.work g.J.Origin.honest (g.K.Keep.honest c.args.keep.now) (g.K.Keep.saved c.args.keep.now) (g.K.Keep.may_load c.args.keep.now)
+    m c.finish.new.self (ap (λ (x : Machine). x.saved) is) c.requires.keep in
+    (c.type_bounds.sync-R, (running, (sym c.finish.ensures.all ∙ c.if-finish.true, keeps)))

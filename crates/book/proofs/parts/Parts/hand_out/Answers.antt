@@ -1,11 +1,13 @@
-use Rattle.std.proofs.Common.{◌≡◌, ◌≤◌, List, true, sym, ap, ◌∙◌, subst, arith}
+use Rattle.std.proofs.Common.{◌≡◌, ◌<◌, ◌≤◌, List, length, true, sym, ap, ◌∙◌, subst, arith}
 use Rattle.std.proofs.lemmas.List.{length-map}
 use Rattle.std.proofs.Math.ListN.{set}
+use Rattle.book.specs.declared.part_slots.PartSlot.TheVariants.{Here}
 use Rattle.book.specs.inside.Parts.{IsHome, Placement, Spot, moved}
 use Rattle.book.specs.inside.Parts.Spot.{Gone}
 use Rattle.book.specs.inside.PartSlots.{IsInSlot, is_here, spot_of, spots_of}
 use Rattle.superstep.proofs.Trusting.{earlier}
-use Rattle.book.proofs.InSlots.{slot_here, placement_of, spots_set}
+use Rattle.book.proofs.InSlots.{in_slots_set, slot_here, placement_of, spots_set}
+use Rattle.book.proofs.parts.Parts.hand_out.Given.{Over}
 use Rattle.book.proofs.parts.Parts.hand_out.Goals as goal
 
 pub index_mut-requires : goal.index_mut-requires
@@ -39,3 +41,33 @@ returns-clause-after g c =
     let left = c.replace-slot.new.dest in
     let spots : spots_of (set i.part_slots.items part left) ≡ set (spots_of i.part_slots.items) part Gone = spots_set i.part_slots.items part left ∙ ap (λ x. set (spots_of i.part_slots.items) part (spot_of x)) c.replace-slot.ensures.after in
     ap (λ (xs : List Spot). placement_of i.epoch i.totals.superstep i.totals.since xs) spots ∙ ap (λ (x : Placement). moved x part Gone) c.self.view_is
+
+pub invariant_of-self : goal.invariant_of-self
+invariant_of-self g c =
+    let i = c.self.inside in
+    let part = c.args.part in
+    let home = subst (λ (x : Placement). IsHome x part) (sym c.self.view_is) c.requires.home in
+    let below : part < length i.part_slots.items = let inside = home.0 in let long = length-map i.part_slots.items spot_of in omega (arith, inside, long) in
+    let away = subst (IsInSlot i.epoch i.totals.superstep part) (sym c.replace-slot.ensures.after) tt in
+    record {
+      telling = c.self.invariant.telling;
+      sums = c.self.invariant.sums;
+      since = c.self.invariant.since;
+      aggregators = c.self.invariant.aggregators;
+      in_slots = in_slots_set i.epoch i.totals.superstep i.part_slots.items part c.replace-slot.new.dest below away c.self.invariant.in_slots;
+    }
+
+-- the slice that was in the slot
+slice_in : (g : Over) (c : goal.After-new g) → IsInSlot {J = g.row.J.Denot} c.self.inside.epoch c.self.inside.totals.superstep c.args.part (Here c.slice_of.result)
+slice_in g c =
+    let i = c.self.inside in
+    let home = subst (λ (x : Placement). IsHome x c.args.part) (sym c.self.view_is) c.requires.home in
+    let below : c.args.part < length i.part_slots.items = let inside = home.0 in let long = length-map i.part_slots.items spot_of in omega (arith, inside, long) in
+    subst (IsInSlot i.epoch i.totals.superstep c.args.part) (sym (c.replace-slot.ensures.value ∙ c.index_mut.ensures.value) ∙ c.slice_of.ensures)
+    (c.self.invariant.in_slots c.args.part c.index_mut.result.now below)
+
+pub returns-clause-superstep : goal.returns-clause-superstep
+returns-clause-superstep g c = c.new.ensures.superstep ∙ (slice_in g c).0 ∙ ap (λ (x : Placement). x.superstep) c.self.view_is
+
+pub returns-clause-part : goal.returns-clause-part
+returns-clause-part g c = c.new.ensures.part ∙ (slice_in g c).1

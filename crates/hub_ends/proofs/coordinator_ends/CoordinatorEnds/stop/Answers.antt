@@ -1,5 +1,5 @@
-use Rattle.std.proofs.Common.{sym, ◌∙◌}
-use Rattle.hub_ends.specs.Hub.{IsStopped}
+use Rattle.std.proofs.Common.{◌≡◌, ◌<◌, ◌∙◌, ℕ, OnOk, arith, refl, subst, sym}
+use Rattle.hub_ends.specs.Hub.{IsStopped, staff}
 use Rattle.hub_ends.proofs.Handed.{below_more, ok_gives}
 use Rattle.hub_ends.proofs.Handing.{hub_then}
 use Rattle.hub_ends.proofs.coordinator_ends.CoordinatorEnds.stop.Goals as goal
@@ -29,3 +29,19 @@ returns-clause-received g c = c.loop-worker.invariant.received
 
 pub returns-clause-hub : goal.returns-clause-hub
 returns-clause-hub g c = c.loop-worker.invariant.hub
+
+pub loop-worker-init : goal.loop-worker-init
+loop-worker-init g c = record {
+  stopped = λ w less. absurd (omega (arith, less));
+  tasks = λ w. refl;
+  received = refl;
+  hub = record { channels = refl; workers = refl };
+  end = c.len-worker-end.ensures;
+}
+
+pub returns-clause-stopped : goal.returns-clause-stopped
+returns-clause-stopped g c =
+    let i = c.loop-worker.invariant in
+    let all : c.loop-worker.worker ≡ staff c.loop-worker.self =
+    omega (arith, c.loop-worker-test.false, c.loop-worker.auto.worker-end, i.end, i.hub.workers) in
+    subst (λ n. OnOk c.loop-worker.answer ((w : ℕ) → w < n → IsStopped c.loop-worker.self w)) all i.stopped

@@ -1,5 +1,6 @@
 -- What follows from an error, and from the lack of one.
-use Rattle.std.proofs.Common.{◌≡◌, ℕ, refl, sym, subst}
+use Rattle.std.proofs.Common.{◌≡◌, ◌∙◌, ℕ, Result, Ok, Err, refl, sym, subst}
+use Rattle.std.specs.Prelude.{IsErrAnd, IsOkUnless, MatchResult}
 use Rattle.wasm_ast.specs.declared.module.Module.{Module}
 use Rattle.verified.specs.Modules.{IsTyped}
 use Rattle.verified.specs.Calls.{callees}
@@ -27,6 +28,17 @@ pub refused_cycle : (m : Module) (e : ProfileFault) → ShowsCycle (callees m) e
 refused_cycle m (fault.Breaks rule place) s = absurd s
 refused_cycle m (fault.Cycle functions) s = s
 refused_cycle m fault.OutOfMemory s = tt
+
+-- a result that hands an error on
+pub handed_on : {T : Type 0} (r : Result T ProfileFault) (e : ProfileFault) (P : T → Type 0) (Q : ProfileFault → Type 0)
+    → IsErrAnd r (λ y. y ≡ e) → Q e → MatchResult r P Q
+handed_on (Ok x) e P Q is q = absurd is
+handed_on (Err y) e P Q is q = subst Q (sym is) q
+
+pub memory_alone : {T : Type 0} (r : Result T ProfileFault) (e : ProfileFault)
+    → IsErrAnd r (λ y. y ≡ e) → e ≡ fault.OutOfMemory → IsOkUnless r fault.OutOfMemory
+memory_alone (Ok x) e is memory = absurd is
+memory_alone (Err y) e is memory = is ∙ memory
 
 -- a bounded module keeps each rule
 keeps : (m : Module) (told : ProfileRule) → IsTyped m → IsBounded m → KeepsRule told m

@@ -6,12 +6,12 @@ use Rattle.std.proofs.lemmas.List.{append-nil, get_or-map, length-map, take_all,
 use Rattle.std.proofs.lemmas.List.Elements.{All-push}
 use Rattle.std.proofs.lemmas.List.FromFn.{get_or-enumerate_from, length-enumerate_from}
 use Rattle.std.proofs.lemmas.Grind.{flat_map-append}
-use Rattle.edge_list.specs.declared.edges.Edges.{Edges}
-use Rattle.edge_list.specs.declared.line.Form.{Form}
-use Rattle.edge_list.specs.declared.line.Line.{Line}
-use Rattle.edge_list.specs.Line.{line_of}
-use Rattle.edge_list.specs.Said.{all_edges, edges_of, is_good, lines_of}
-use Rattle.edge_list.specs.inside.Adding.{Adds}
+use Rattle.graph.specs.declared.edge_list.edges.Edges.{Edges}
+use Rattle.graph.specs.declared.edge_list.line.Form.{Form}
+use Rattle.graph.specs.declared.edge_list.line.Line.{Line}
+use Rattle.graph.specs.edge_list.Line.{line_of}
+use Rattle.graph.specs.edge_list.Said.{all_edges, edges_of, is_good, lines_of}
+use Rattle.graph.specs.inside.Adding.{Adds}
 
 -- the next line says this
 pub record Comes (all : List Line) (read : ℕ) (said : Line) : Type 0 where

@@ -27,7 +27,7 @@ use Rattle.line_text.specs.Number.{id_of, number_of, numeral}
 use Rattle.graph.specs.Print.{id_in, value_line, value_lines}
 use Rattle.graph.specs.Said.{all_declared, all_edges, lines_of}
 use Rattle.conversions.specs.graph_import.Graph.{edge_line, edge_lines, graph_of, graph_text, vertex_of}
-use Rattle.edge_list.specs.inside.Ranges.{IsInRange}
+use Rattle.graph.specs.inside.Ranges.{IsInRange}
 
 -- ---- numbers
 

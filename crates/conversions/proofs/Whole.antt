@@ -12,7 +12,7 @@ use Rattle.graph.specs.Graph.{IsGraphText, IsWithinLimits}
 use Rattle.graph.specs.Print.{id_in}
 use Rattle.conversions.specs.declared.graph_import.writing.Values.{Values}
 use Rattle.conversions.specs.graph_import.Graph.{AreIdsOf, ends, from_of, graph_of, graph_text, share_of, shared, target_of, value_beside, valued, weighed}
-use Rattle.edge_list.specs.inside.Ranges.{IsInRange}
+use Rattle.graph.specs.inside.Ranges.{IsInRange}
 use Rattle.conversions.proofs.Meaning.{VertexFits, keeps_limits, means_graph}
 
 -- ---- ids

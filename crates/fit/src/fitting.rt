@@ -4,8 +4,9 @@ ghost use Rattle.std.specs.Prelude.{◌≡◌, IfOk, true};
 ghost use Rattle.verified.specs.Profile.{IsBounded};
 ghost use Rattle.fit.specs.Fit.{KeepsModule, SameOutside};
 
+use crate::items::takers;
+use crate::rewriting::{Surroundings, rewritten_body};
 use bounded_profile::{ProfileFault, verify};
-use fit_bodies::{Surroundings, rewritten_body, takers};
 use std::alloc::{AllocError, Global};
 use validate::{Valid, ValidFault, validate};
 use wasm_ast::{FuncType, Function, Module, Sequence, ValType};

@@ -1,3 +1,4 @@
+pub mod Both
 pub mod Collecting
 pub mod Counting
 pub mod InPieces

@@ -9,5 +9,7 @@ pub mod Partition
 pub mod Parts
 pub mod Print
 pub mod Faults
+-- edge lists: the meaning of a line, and the edges of a text
+pub mod edge_list
 -- for proofs only: definitions that follow the code, and facts on lists, which crates above use too
 pub mod inside

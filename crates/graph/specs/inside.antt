@@ -6,3 +6,6 @@ pub mod Read
 -- Lists by rising keys, and lists cut into parts: facts for the proofs of this crate and of those above it.
 pub mod Rising
 pub mod Partitioned
+-- Ranges of an edge's numbers, and the adding of an edge list's edges.
+pub mod Ranges
+pub mod Adding

@@ -1,8 +1,10 @@
 //! Graph files: directed graphs with a value at each vertex and each edge, as text. The crate reads them, cuts graphs into
 //! parts, and prints the values of vertices.
+//! It also reads the edges of edge lists.
 #![tactic(auto)]
 
 mod collect;
+pub mod edge_list;
 mod fault;
 mod fault_lines;
 mod graph;

@@ -6,13 +6,13 @@ use Rattle.graph.specs.declared.vertex.Edge.{Edge}
 use Rattle.graph.specs.Graph.{IsGraphText, IsWithinLimits}
 use Rattle.line_text.specs.Number.{id_of, number_of}
 use Rattle.conversions.specs.declared.graph_import.making.Imported.{Imported}
-use Rattle.edge_list.specs.declared.line.Form.{Form}
+use Rattle.graph.specs.declared.edge_list.line.Form.{Form}
 use Rattle.conversions.specs.declared.graph_import.plan.Format.{Format}
 use Rattle.conversions.specs.declared.graph_import.plan.Format.TheVariants as format
 use Rattle.conversions.specs.declared.graph_import.plan.Plan.{Plan}
 use Rattle.conversions.specs.declared.graph_import.writing.Values.{Values}
 use Rattle.conversions.specs.graph_import.Graph.{AreIdsOf, ends, graph_of, graph_text, valued, weighed}
-use Rattle.edge_list.specs.Said.{all_edges, is_good, lines_of}
+use Rattle.graph.specs.edge_list.Said.{all_edges, is_good, lines_of}
 
 -- ---- the edges that are read
 

@@ -2,12 +2,12 @@
 
 ghost use Rattle.std.specs.Prelude.{◌≡◌, true, OnOk};
 ghost use Rattle.std.specs.List.{All};
-ghost use Rattle.edge_list.specs.Said.{all_edges, is_good, lines_of};
-ghost use Rattle.edge_list.specs.inside.Adding.{Adds};
+ghost use Rattle.graph.specs.edge_list.Said.{all_edges, is_good, lines_of};
+ghost use Rattle.graph.specs.inside.Adding.{Adds};
 
 use crate::graph_import::names::{Names, Row, row_of};
-use edge_list::{Edges, Form, line_of};
 use graph::GraphFault;
+use graph::edge_list::{Edges, Form, line_of};
 use std::alloc::Global;
 
 /// Reads an edge list whose ends are numbers.

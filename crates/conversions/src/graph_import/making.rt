@@ -15,7 +15,7 @@ use crate::graph_import::reading::Reading;
 use crate::graph_import::table::{Weight, read_table};
 use crate::graph_import::vertices::{shares_of, vertices_of};
 use crate::graph_import::writing::{Values, text_of};
-use edge_list::{Edges, Form};
+use graph::edge_list::{Edges, Form};
 use graph::{Edge, GraphFault, MAX_EDGES, MAX_VERTICES};
 use line_text::{id_of, number_of};
 use std::alloc::{AllocError, Global};

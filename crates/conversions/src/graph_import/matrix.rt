@@ -3,7 +3,7 @@
 ghost use Rattle.std.specs.Prelude.{◌≡◌, ◌≤◌, IfOk, OnOk, codes, nat_eq};
 ghost use Rattle.std.specs.List.{starts_with};
 
-use edge_list::{Edges, Form, Line, line_of};
+use graph::edge_list::{Edges, Form, Line, line_of};
 use graph::{GraphFault, MAX_VERTICES};
 use line_text::Fields;
 

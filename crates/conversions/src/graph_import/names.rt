@@ -1,9 +1,9 @@
 //! Names, numbered in the order in which they first occur.
 
 ghost use Rattle.std.specs.Prelude.{IfOk};
-ghost use Rattle.edge_list.specs.inside.Ranges.{IsInRange};
+ghost use Rattle.graph.specs.inside.Ranges.{IsInRange};
 
-use edge_list::{Form, is_comment};
+use graph::edge_list::{Form, is_comment};
 use graph::{Edge, GraphFault, MAX_VERTICES};
 use line_text::{Fields, number_of};
 use std::alloc::Global;

@@ -3,7 +3,7 @@
 ghost use Rattle.std.specs.Prelude.{◌≤◌};
 
 use crate::graph_import::names::Names;
-use edge_list::Edges;
+use graph::edge_list::Edges;
 
 /// The edges of a file, and the names of their ends if the ends are names.
 #[derive(Drop)]

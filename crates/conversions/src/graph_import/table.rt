@@ -4,8 +4,8 @@ ghost use Rattle.std.specs.Prelude.{◌≡◌, OnOk};
 
 use crate::graph_import::names::Names;
 use csv::{ByteRecord, Error, ErrorKind, Reader, ReaderBuilder, Trim};
-use edge_list::{Edges, edge_between};
 use graph::GraphFault;
+use graph::edge_list::{Edges, edge_between};
 use line_text::number_of;
 use std::alloc::Global;
 

@@ -1,6 +1,7 @@
 use Rattle.book.proofs.Keeps.{keeps_same}
 use Rattle.std.proofs.Common.{map, true≢false, refl, sym, ◌∙◌}
 use Rattle.std.proofs.lemmas.Bool.{false≢true}
+use Rattle.std.proofs.lemmas.Result.{IfOk-from_err}
 use Rattle.hub_ends.specs.Hub.{handed, received}
 use Rattle.hub_ends.proofs.Handing.{hub_same, hub_then}
 use Rattle.hub_ends.specs.Verdicts.{told_on}
@@ -108,6 +109,51 @@ returns-in_err-tell_due-clause-hub g c = hub_then c.loop.invariant.hub (hub_then
 
 pub offer_or_stop-requires : goal.offer_or_stop-requires
 offer_or_stop-requires g c = record { stopped = c.loop.invariant.over }
+
+pub returns-in_err-offer_or_stop-clause-steps : goal.returns-in_err-offer_or_stop-clause-steps
+returns-in_err-offer_or_stop-clause-steps g c = IfOk-from_err c.from_residual.result _ c.from_residual.ensures.0
+
+pub returns-in_err-offer_or_stop-clause-keep : goal.returns-in_err-offer_or_stop-clause-keep
+returns-in_err-offer_or_stop-clause-keep g c = IfOk-from_err c.from_residual.result _ c.from_residual.ensures.0
+
+pub returns-in_err-offer_or_stop-clause-ended : goal.returns-in_err-offer_or_stop-clause-ended
+returns-in_err-offer_or_stop-clause-ended g c = IfOk-from_err c.from_residual.result _ c.from_residual.ensures.0
+
+pub returns-in_err-offer_or_stop-clause-byes : goal.returns-in_err-offer_or_stop-clause-byes
+returns-in_err-offer_or_stop-clause-byes g c = IfOk-from_err c.from_residual.result _ c.from_residual.ensures.0
+
+pub returns-in_err-offer_or_stop-clause-stopped : goal.returns-in_err-offer_or_stop-clause-stopped
+returns-in_err-offer_or_stop-clause-stopped g c = IfOk-from_err c.from_residual.result _ c.from_residual.ensures.0
+
+pub returns-in_err-taken-clause-steps : goal.returns-in_err-taken-clause-steps
+returns-in_err-taken-clause-steps g c = IfOk-from_err c.from_residual-in_err-taken.result _ c.from_residual-in_err-taken.ensures.0
+
+pub returns-in_err-taken-clause-keep : goal.returns-in_err-taken-clause-keep
+returns-in_err-taken-clause-keep g c = IfOk-from_err c.from_residual-in_err-taken.result _ c.from_residual-in_err-taken.ensures.0
+
+pub returns-in_err-taken-clause-ended : goal.returns-in_err-taken-clause-ended
+returns-in_err-taken-clause-ended g c = IfOk-from_err c.from_residual-in_err-taken.result _ c.from_residual-in_err-taken.ensures.0
+
+pub returns-in_err-taken-clause-byes : goal.returns-in_err-taken-clause-byes
+returns-in_err-taken-clause-byes g c = IfOk-from_err c.from_residual-in_err-taken.result _ c.from_residual-in_err-taken.ensures.0
+
+pub returns-in_err-taken-clause-stopped : goal.returns-in_err-taken-clause-stopped
+returns-in_err-taken-clause-stopped g c = IfOk-from_err c.from_residual-in_err-taken.result _ c.from_residual-in_err-taken.ensures.0
+
+pub returns-in_err-tell_due-clause-steps : goal.returns-in_err-tell_due-clause-steps
+returns-in_err-tell_due-clause-steps g c = IfOk-from_err c.from_residual-in_err-tell_due.result _ c.from_residual-in_err-tell_due.ensures.0
+
+pub returns-in_err-tell_due-clause-keep : goal.returns-in_err-tell_due-clause-keep
+returns-in_err-tell_due-clause-keep g c = IfOk-from_err c.from_residual-in_err-tell_due.result _ c.from_residual-in_err-tell_due.ensures.0
+
+pub returns-in_err-tell_due-clause-ended : goal.returns-in_err-tell_due-clause-ended
+returns-in_err-tell_due-clause-ended g c = IfOk-from_err c.from_residual-in_err-tell_due.result _ c.from_residual-in_err-tell_due.ensures.0
+
+pub returns-in_err-tell_due-clause-byes : goal.returns-in_err-tell_due-clause-byes
+returns-in_err-tell_due-clause-byes g c = IfOk-from_err c.from_residual-in_err-tell_due.result _ c.from_residual-in_err-tell_due.ensures.0
+
+pub returns-in_err-tell_due-clause-stopped : goal.returns-in_err-tell_due-clause-stopped
+returns-in_err-tell_due-clause-stopped g c = IfOk-from_err c.from_residual-in_err-tell_due.result _ c.from_residual-in_err-tell_due.ensures.0
 
 pub returns-then-all_gone-clause-ended : goal.returns-then-all_gone-clause-ended
 returns-then-all_gone-clause-ended g c = (c.in_ok-offer_or_stop.ensures.stopped c.if-stopped.true).ended

@@ -3,7 +3,7 @@ use Rattle.std.proofs.lemmas.List.{length_push}
 use Rattle.std.proofs.lemmas.List.Elements.{All-nil}
 use Rattle.std.proofs.lemmas.Iterator.Consumers.{YieldsList-at, YieldsList-end, YieldsList-from_enumerate, YieldsList-turn}
 use Rattle.std.proofs.lemmas.Iterator.Splits.{YieldsList-from_lines}
-use Rattle.edge_list.specs.Said.{lines_of}
+use Rattle.graph.specs.edge_list.Said.{lines_of}
 use Rattle.conversions.proofs.Lines.{adds_all, adds_next, adds_none, good_all, good_next, line_comes}
 use Rattle.conversions.proofs.graph_import.list.read_list.Goals as goal
 

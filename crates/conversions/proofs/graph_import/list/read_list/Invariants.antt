@@ -1,7 +1,7 @@
 use Rattle.std.proofs.Common.{◌≡◌, length, take, true}
 use Rattle.std.specs.List.{All}
-use Rattle.edge_list.specs.Said.{all_edges, is_good, lines_of}
-use Rattle.edge_list.specs.inside.Adding.{Adds}
+use Rattle.graph.specs.edge_list.Said.{all_edges, is_good, lines_of}
+use Rattle.graph.specs.inside.Adding.{Adds}
 use Rattle.conversions.proofs.graph_import.list.read_list.Given as goal
 
 abbrev pub invariant-loop-index : goal.invariant-loop-index

@@ -1,7 +1,7 @@
 use Rattle.std.proofs.Common.{◌≡◌, ◌∙◌, ◌++◌, ap, refl, subst, true}
 use Rattle.std.specs.List.{All}
 use Rattle.conversions.specs.graph_import.Import.{list_form}
-use Rattle.edge_list.specs.Said.{all_edges, is_good, lines_of}
+use Rattle.graph.specs.edge_list.Said.{all_edges, is_good, lines_of}
 use Rattle.conversions.proofs.graph_import.making.read_lines.Goals as goal
 
 pub returns-in_ok-read_list-in-None-clause-read : goal.returns-in_ok-read_list-in-None-clause-read

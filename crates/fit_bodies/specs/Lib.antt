@@ -1,2 +1,0 @@
--- what only mirrors the code, for its proofs
-pub mod inside
